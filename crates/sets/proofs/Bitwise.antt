@@ -64,6 +64,11 @@ T-not : (x : Bool) → T (not x) ↔ (T x → ⊥)
 T-not true = (λ z h. z, λ f. f tt)
 T-not false = (λ h z. z, λ f. tt)
 
+-- a test that doesn't fail holds
+pub tested : (x : Bool) → ((T x → ⊥) → ⊥) → T x
+tested true n = tt
+tested false n = n (λ z. z)
+
 none : (x : Bool) → (T x → ⊥) → x ≡ false
 none true f = absurd (f tt)
 none false f = refl

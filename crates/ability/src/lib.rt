@@ -1,0 +1,8 @@
+//! What a coalition can bring about in one step.
+mod enforce;
+mod own;
+
+pub use enforce::able;
+pub use enforce::can;
+pub use own::own_choice;
+pub use own::own_choices;

@@ -1,0 +1,79 @@
+//! Own choices: joint moves over a coalition's agents alone.
+use model::game::Game;
+use model::game::Marked;
+use sets::coalition::Coalition;
+ghost use mathlib.Core.Path.{_≡_};
+ghost use Prim.Native.Nat.{ℕ, _<_};
+ghost use Rattle.std.specs.Numbers.{Checked};
+ghost use Rattle.sets.specs.Sets.{who};
+ghost use Rattle.model.specs.Model.{Exists, Numbering, joint, ownOf, owns};
+
+/// How many choices an agent has at a state, both of which exist.
+fn agent_choices<G: Game>(g: &G, s: u8, i: u8) -> u8
+    requires { ⌜ s < G·Game .model (now g) .n ⌝ }
+    requires { ⌜ i < G·Game .model (now g) .k ⌝ }
+    ensures { λ r. ⌜ r ≡ G·Game .model (now (g .entry)) .d s i ⌝ }
+{
+    match g.choices(s, i) {
+        Some(d) => d,
+        None => unreachable(),
+    }
+}
+
+/// How many own choices the coalition has at a state that exists.
+pub(crate) fn own_count<G: Game>(g: &G, a: Coalition, s: u8) -> u8
+    requires { ⌜ s < G·Game .model (now g) .n ⌝ }
+    ensures { λ r. ⌜ r ≡ owns (G·Game .model (now (g .entry))) (who a) s ⌝ }
+{
+    let mut count = 1;
+    for i in 0..g.agents() {
+        if a.contains(i) {
+            count *= agent_choices(g, s, i);
+        }
+    }
+    count
+}
+
+/// The coalition's own choice in a joint move at a state that exists.
+pub(crate) fn own_part<G: Game>(g: &G, a: Coalition, s: u8, j: u8) -> u8
+    requires { ⌜ s < G·Game .model (now g) .n ⌝ }
+    ensures { λ r. ⌜ r ≡ ownOf (G·Game .model (now (g .entry))) (who a) s j ⌝ }
+{
+    let mut rest = j;
+    let mut stride = 1;
+    let mut own = 0;
+    for i in 0..g.agents() {
+        let d = agent_choices(g, s, i);
+        if a.contains(i) {
+            own += rest % d * stride;
+            stride *= d;
+        }
+        rest /= d;
+    }
+    own
+}
+
+/// How many own choices the coalition has at a state, or none where one of them doesn't exist.
+pub fn own_choices<G: Game>(g: &G, a: Coalition, s: u8) -> Option<u8>
+    ensures { λ r. ⌜ Checked r ((s < G·Game .model (now (g .entry)) .n) × Exists (G·Game .model (now (g .entry))) (who a)) (owns (G·Game .model (now (g .entry))) (who a) s) ⌝ }
+{
+    if s < g.states() && a.is_among(g.agents()) {
+        Some(own_count(g, a, s))
+    } else {
+        None
+    }
+}
+
+/// The coalition's own choice that a joint move agrees with, or none where one of the three doesn't exist; and the law of the numbering.
+pub fn own_choice<G: Game>(g: &G, a: Coalition, s: u8, j: u8) -> Option<u8>
+    ensures value { λ r. ⌜ Checked r ((s < G·Game .model (now (g .entry)) .n) × (j < joint (G·Game .model (now (g .entry))) s) × Exists (G·Game .model (now (g .entry))) (who a)) (ownOf (G·Game .model (now (g .entry))) (who a) s j) ⌝ }
+    ensures numbering { λ _. ⌜ (s < G·Game .model (now (g .entry)) .n → Numbering (G·Game .model (now (g .entry))) (who a) s) ⌝ }
+{
+    if !a.is_among(g.agents()) {
+        return None;
+    }
+    match g.out(s, j) {
+        Some(_) => Some(own_part(g, a, s, j)),
+        None => None,
+    }
+}
