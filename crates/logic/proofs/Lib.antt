@@ -1,0 +1,3 @@
+pub mod Asking
+mod Shrinking
+mod Telling

@@ -1,0 +1,8 @@
+//! Questions of alternating-time temporal logic, and where they hold.
+mod answer;
+pub mod fixpoint;
+pub mod line;
+mod lines;
+mod rule;
+
+pub use lines::with_mark;
