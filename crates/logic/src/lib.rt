@@ -5,4 +5,5 @@ pub mod line;
 mod lines;
 mod rule;
 
+pub use answer::evaluate;
 pub use lines::with_mark;
