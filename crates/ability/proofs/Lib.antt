@@ -1,2 +1,3 @@
 pub mod Collecting
-mod Spoiling
+mod Leading
+mod Repeating

@@ -1,32 +1,35 @@
 //! Where a coalition can lead, whatever the others choose.
-use crate::own::own_count;
-use crate::own::own_part;
+use crate::own::own_parts;
+use crate::parts::Parts;
 use model::game::Game;
 use model::game::Marked;
 use sets::coalition::Coalition;
 use sets::state_set::StateSet;
-ghost use mathlib.Core.Path.{_≡_};
 ghost use mathlib.Core.Logic.{_↔_};
-ghost use Prim.Native.Nat.{ℕ, _<_};
+ghost use Prim.Native.Nat.{ℕ, _<_, _≤_};
 ghost use lib.Dec.{T};
-ghost use Rattle.sets.specs.Sets.{member, who};
+ghost use Rattle.sets.specs.Sets.{limit, member, who};
 ghost use Rattle.model.specs.Model.{Can, Numbering, joint};
-ghost use Rattle.ability.specs.Ability.{Spoils};
+ghost use Rattle.ability.specs.Ability.{Leads};
 
-/// The own choices of the coalition at a state that have an outcome outside `x`.
-fn spoiled<G: Game>(g: &G, a: Coalition, s: u8, x: StateSet) -> StateSet
+/// The own choices such that every joint move agreeing with one of them leads from a state into `x`.
+fn leading<G: Game>(g: &G, s: u8, x: StateSet, parts: &Parts) -> StateSet
     requires { ⌜ s < G·Game .model (now g) .n ⌝ }
-    ensures { λ r. ⌜ ((c : ℕ) → T (member r c) ↔ Spoils (G·Game .model (now (g .entry))) (who a) s (member x) (joint (G·Game .model (now (g .entry))) s) c) ⌝ }
+    requires { ⌜ now parts .count ≤ limit ⌝ }
+    ensures { λ r. ⌜ ((c : ℕ) → T (member r c) ↔ Leads (G·Game .model (now (g .entry))) s (member x) (now (parts .entry)) (joint (G·Game .model (now (g .entry))) s) c) ⌝ }
 {
-    let mut bad = StateSet::empty();
+    let mut free = StateSet::below(parts.count);
     let mut j = 0;
     while let Some(t) = g.out(s, j) {
         if !x.contains(t) {
-            bad.insert(own_part(g, a, s, j));
+            free = free.difference(StateSet::single(parts.own[j as usize]));
+            if free.is_empty() {
+                return free;
+            }
         }
         j += 1;
     }
-    bad
+    free
 }
 
 /// Whether the coalition and the state exist, and the coalition has an own choice there such that every joint move agreeing with it leads into `x`.
@@ -37,13 +40,8 @@ pub fn can<G: Game>(g: &G, a: Coalition, s: u8, x: StateSet) -> bool
     if s >= g.states() || !a.is_among(g.agents()) {
         return false;
     }
-    let bad = spoiled(g, a, s, x);
-    for c in 0..own_count(g, a, s) {
-        if !bad.contains(c) {
-            return true;
-        }
-    }
-    false
+    let parts = own_parts(g, a, s);
+    !leading(g, s, x, &parts).is_empty()
 }
 
 /// The states of `among` from which the coalition can lead into `x`.

@@ -1,6 +1,7 @@
 //! What a coalition can bring about in one step.
 mod enforce;
 mod own;
+mod parts;
 
 pub use enforce::able;
 pub use enforce::can;

@@ -1,12 +1,14 @@
 //! Own choices: joint moves over a coalition's agents alone.
+use crate::parts::Parts;
 use model::game::Game;
 use model::game::Marked;
 use sets::coalition::Coalition;
 ghost use mathlib.Core.Path.{_≡_};
 ghost use Prim.Native.Nat.{ℕ, _<_};
 ghost use Rattle.std.specs.Numbers.{Checked};
-ghost use Rattle.sets.specs.Sets.{who};
+ghost use Rattle.sets.specs.Sets.{bit, who};
 ghost use Rattle.model.specs.Model.{Exists, Numbering, joint, ownOf, owns};
+ghost use Rattle.ability.specs.Ability.{PartsOf};
 
 /// How many choices an agent has at a state, both of which exist.
 fn agent_choices<G: Game>(g: &G, s: u8, i: u8) -> u8
@@ -20,37 +22,20 @@ fn agent_choices<G: Game>(g: &G, s: u8, i: u8) -> u8
     }
 }
 
-/// How many own choices the coalition has at a state that exists.
-pub(crate) fn own_count<G: Game>(g: &G, a: Coalition, s: u8) -> u8
+/// The own choices of a coalition at a state that exists, and which of them each joint move agrees with.
+pub(crate) fn own_parts<G: Game>(g: &G, a: Coalition, s: u8) -> Parts
     requires { ⌜ s < G·Game .model (now g) .n ⌝ }
-    ensures { λ r. ⌜ r ≡ owns (G·Game .model (now (g .entry))) (who a) s ⌝ }
+    ensures { λ r. ⌜ PartsOf (bit (who a)) (G·Game .model (now (g .entry)) .d s) (G·Game .model (now (g .entry)) .k) r ⌝ }
 {
-    let mut count = 1;
+    let mut parts = Parts {
+        own: [0; 64],
+        width: 1,
+        count: 1,
+    };
     for i in 0..g.agents() {
-        if a.contains(i) {
-            count *= agent_choices(g, s, i);
-        }
+        parts.extend(agent_choices(g, s, i), a.contains(i));
     }
-    count
-}
-
-/// The coalition's own choice in a joint move at a state that exists.
-pub(crate) fn own_part<G: Game>(g: &G, a: Coalition, s: u8, j: u8) -> u8
-    requires { ⌜ s < G·Game .model (now g) .n ⌝ }
-    ensures { λ r. ⌜ r ≡ ownOf (G·Game .model (now (g .entry))) (who a) s j ⌝ }
-{
-    let mut rest = j;
-    let mut stride = 1;
-    let mut own = 0;
-    for i in 0..g.agents() {
-        let d = agent_choices(g, s, i);
-        if a.contains(i) {
-            own += rest % d * stride;
-            stride *= d;
-        }
-        rest /= d;
-    }
-    own
+    parts
 }
 
 /// How many own choices the coalition has at a state, or none where one of them doesn't exist.
@@ -58,7 +43,7 @@ pub fn own_choices<G: Game>(g: &G, a: Coalition, s: u8) -> Option<u8>
     ensures { λ r. ⌜ Checked r ((s < G·Game .model (now (g .entry)) .n) × Exists (G·Game .model (now (g .entry))) (who a)) (owns (G·Game .model (now (g .entry))) (who a) s) ⌝ }
 {
     if s < g.states() && a.is_among(g.agents()) {
-        Some(own_count(g, a, s))
+        Some(own_parts(g, a, s).count)
     } else {
         None
     }
@@ -73,7 +58,7 @@ pub fn own_choice<G: Game>(g: &G, a: Coalition, s: u8, j: u8) -> Option<u8>
         return None;
     }
     match g.out(s, j) {
-        Some(_) => Some(own_part(g, a, s, j)),
+        Some(_) => Some(own_parts(g, a, s).own[j as usize]),
         None => None,
     }
 }

@@ -50,7 +50,7 @@ module _ (d : ℕ → ℕ) (k : ℕ) (pos : (a : ℕ) → a < k → 1 ≤ d a) w
   moves-pos A zero h = omega arith
   moves-pos A (suc a) h = kept-pos (A a) (moves A d a) (d a) (moves-pos A a (omega arith)) (pos a (omega arith))
 
-  moves-le : (A : Set) (a : ℕ) → a ≤ k → moves A d a ≤ moves everyone d a
+  pub moves-le : (A : Set) (a : ℕ) → a ≤ k → moves A d a ≤ moves everyone d a
   moves-le A zero h = omega arith
   moves-le A (suc a) h = kept-le (A a) (moves A d a) (moves everyone d a) (d a) (moves-le A a (omega arith)) (pos a (omega arith))
 

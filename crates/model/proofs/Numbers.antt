@@ -7,7 +7,7 @@ use native.Mathlib.Nat.{add-zero, mul-assoc, mul-comm, mul-one, add-mul-div-left
 use native.Mathlib.Omega.{arith}
 use lib.Arith.{mod-mul}
 use lib.Dec.{T}
-use Rattle.std.proofs.shelf.Bits.{mod-below, div-mul-add}
+use Rattle.std.proofs.shelf.Bits.{mod-below, div-add-mod', div-mul-add}
 use Rattle.std.proofs.shelf.Tests.{cases-eq}
 use Rattle.sets.specs.Sets.{Set, bit}
 use Rattle.model.specs.Model.{Model, Ranged, Numbering, moves, everyone, joint, choice, number, own, ownOf, owns}
@@ -85,6 +85,17 @@ module _ (A : Set) (d : ℕ → ℕ) where
 
   pub sum-below : (j a : ℕ) → ((b : ℕ) → b < a → 1 ≤ d b) → j < moves A d a → number A d (λ i. choice A d i j) a ≡ j
   sum-below j a h l = sum j a h ∙ mod-eq-of-lt l
+
+-- what the first agents choose depends on a joint move's number modulo the count of theirs
+pub own-periodic : (A : Set) (d : ℕ → ℕ) (a j : ℕ) → ((b : ℕ) → b < a → 1 ≤ d b) → own A d a (j % moves everyone d a) ≡ own A d a j
+own-periodic A d a j pos =
+    number-same A d (λ b. choice everyone d b (j % moves everyone d a)) (λ b. choice everyone d b j) a
+    (λ b l t.
+    let m = moves everyone d a in
+    let r = multiple everyone d b a l tt in
+    let whole : j % m + j / m * m ≡ j = omega (arith, div-add-mod' j m) in
+    sym (deep true (j % m) (j / m) m (moves everyone d b) (d b) (r .0) (r .1) (moves-pos d a pos everyone b (omega arith)))
+    ∙ ap (choice everyone d b) whole)
 
 -- the choices of an own choice of A; the others take their first
 within : (b : Bool) (x d : ℕ) → 1 ≤ d → x < d → cond b x 0 < d

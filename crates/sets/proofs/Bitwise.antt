@@ -60,7 +60,7 @@ pub T-and : (x y : Bool) → T (x && y) ↔ (T x × T y)
 T-and true y = (λ h. (tt, h), λ h. h .1)
 T-and false y = (λ h. absurd h, λ h. h .0)
 
-T-not : (x : Bool) → T (not x) ↔ (T x → ⊥)
+pub T-not : (x : Bool) → T (not x) ↔ (T x → ⊥)
 T-not true = (λ z h. z, λ f. f tt)
 T-not false = (λ h z. z, λ f. tt)
 

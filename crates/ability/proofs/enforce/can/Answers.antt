@@ -1,11 +1,22 @@
 use borrow.Author.Needs.{needs}
+use mathlib.Core.Path.{_≡_, sym, _∙_}
+use Prim.Native.Nat.{ℕ, _<_}
 use native.Mathlib.Omega.{arith}
-use mathlib.Core.Path.{sym, subst}
 use lib.Dec.{T}
-use Rattle.sets.specs.Sets.{member, who}
-use Rattle.sets.proofs.Bitwise.{tested}
+use lib.ListN.{getD}
+use Rattle.sets.specs.Sets.{bit, who}
+use Rattle.sets.proofs.Bitwise.{T-not}
+use Rattle.sets.proofs.Members.{some-member}
+use Rattle.model.specs.Model.{joint, ownOf}
 use Rattle.model.proofs.Numbers.{numbering}
+use Rattle.ability.proofs.Repeating.{parts-few}
 use Rattle.ability.proofs.enforce.can.Needs as need
+
+pub leading-requires : need.leading-requires
+leading-requires g c κs =
+    let M = g .G·Game .model (c .args .g .now) in
+    let s : c .args .s < M .n = search needs in
+    (s, parts-few M (g .G·Game·met .ranged (c .args .g .now)) (c .args .s) s (bit (who (c .args .a))) (c .own-parts-parts .result) (c .own-parts-parts .ensures))
 
 pub returns-then-s-states : need.returns-then-s-states
 returns-then-s-states g c = record {
@@ -13,30 +24,29 @@ returns-then-s-states g c = record {
   numbering = λ l. numbering _ (g .G·Game·met .ranged (c .args .g .now)) (who (c .args .a)) (c .args .s) l;
 }
 
-pub returns-then-not-contains : need.returns-then-not-contains
-returns-then-not-contains g c =
+pub returns : need.returns
+returns g c =
     let M = g .G·Game .model (c .args .g .now) in
-    let safe : T (member (c .spoiled-bad .result) (c .loop-c .c)) → ⊥ = λ t. subst T (sym (c .if-not-contains .ensures tt)) t in
+    let s = c .args .s in
+    let parts = c .own-parts-parts .ensures in
+    let agree : (j : ℕ) → j < joint M s → getD (c .own-parts-parts .result .own) j 0 ≡ ownOf M (who (c .args .a)) s j = λ j l. parts .own j (omega (arith, parts .width)) in
     record {
       can = (
-        λ _. record {
-          coalition = search needs;
-          state = search needs;
-          with = c .loop-c .c;
-          below = omega (arith, c .loop-c-test .taken, c .own-count-c-end .ensures);
-          leads = λ j l e. tested (member (c .args .x) (M .out (c .args .s) j)) (λ out. safe (c .spoiled-bad .ensures (c .loop-c .c) .1 (j, l, e, out)));
-        },
-        λ _. tt,
+        λ t.
+            let some = some-member (c .leading .result) (λ none. T-not (c .is-empty .result) .0 t (c .is-empty .ensures .1 none)) in
+            let leads = c .leading .ensures (some .0) .0 (some .1) in
+            record {
+              coalition = search needs;
+              state = search needs;
+              with = some .0;
+              below = omega (arith, leads .below, parts .count);
+              leads = λ j l e. leads .into j l (agree j l ∙ e);
+            },
+        λ p. T-not (c .is-empty .result) .1 (λ none.
+            c .is-empty .ensures .0 none (p .with) (c .leading .ensures (p .with) .1 (record {
+              below = omega (arith, p .below, parts .count);
+              into = λ j l e. p .leads j l (sym (agree j l) ∙ e);
+            }))),
       );
-      numbering = λ l. numbering _ (g .G·Game·met .ranged (c .args .g .now)) (who (c .args .a)) (c .args .s) l;
+      numbering = λ l. numbering M (g .G·Game·met .ranged (c .args .g .now)) (who (c .args .a)) s l;
     }
-
-pub returns : need.returns
-returns g c = record {
-  can = (
-    λ z. absurd z,
-    λ p. let q = c .spoiled-bad .ensures (p .with) .0 (c .loop-c .inv (p .with) (omega (arith, p .below, c .own-count-c-end .ensures))) in
-        q .3 (p .leads (q .0) (q .1) (q .2)),
-  );
-  numbering = λ l. numbering _ (g .G·Game·met .ranged (c .args .g .now)) (who (c .args .a)) (c .args .s) l;
-}

@@ -1,4 +1,5 @@
 use borrow.Author.Needs.{needs}
+use native.Mathlib.Omega.{arith}
 use Rattle.sets.specs.Sets.{who}
 use Rattle.model.proofs.Numbers.{numbering}
 use Rattle.ability.proofs.own.own_choice.Needs as need
@@ -20,3 +21,6 @@ returns-in-None g c = record {
   value = search needs;
   numbering = λ l. numbering _ (g .G·Game·met .ranged (c .args .g .now)) (who (c .args .a)) (c .args .s) l;
 }
+
+pub index-own-parts-j : need.index-own-parts-j
+index-own-parts-j g c = omega (arith, c .in-Some .ensures tt .0, g .G·Game·met .ranged (c .args .g .now) .product (c .args .s) (c .in-Some .ensures tt .0 .0))
