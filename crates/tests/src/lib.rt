@@ -1,0 +1,7 @@
+//! Examples of what the library answers, refusals among them: each is proved to be safe, and run.
+#[cfg(test)]
+mod lists;
+#[cfg(test)]
+mod models;
+#[cfg(test)]
+mod questions;
