@@ -32,7 +32,7 @@ impl StateSet {
     pub fn empty() -> StateSet
         ensures { λ r. ⌜ ((s : ℕ) → T (member r s) → ⊥) ⌝ }
     {
-        StateSet { bits: 0 }
+        StateSet::below(0)
     }
 
     /// The set of `s` alone; of nothing, past the limit.

@@ -47,7 +47,14 @@ fn rings() -> Result<(), Fail> {
 
 /// One state with these counts for so many agents, which stays where it is.
 fn lone(agents: u8, counts: [u8; 6]) -> Option<Table> {
-    Table::from_states(agents, &[State { marks: 5, counts, outcomes: [0; 64] }])
+    Table::from_states(
+        agents,
+        &[State {
+            marks: 5,
+            counts,
+            outcomes: [0; 64],
+        }],
+    )
 }
 
 #[test]
@@ -66,7 +73,14 @@ fn tables() -> Result<(), Fail> {
     check(lone(6, [64; 6]).is_none())?;
     check(lone(0, [1; 6]).is_none())?;
     check(lone(7, [1; 6]).is_none())?;
-    check(Table::from_states(1, &[State { marks: 0, counts: [1; 6], outcomes: [1; 64] }]).is_none())
+    check(Table::from_states(
+        1,
+        &[State {
+            marks: 0,
+            counts: [1; 6],
+            outcomes: [1; 64],
+        }],
+    ).is_none())
 }
 
 #[test]

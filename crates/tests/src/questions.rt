@@ -41,10 +41,30 @@ fn refusals() -> Result<(), Fail> {
     refused(&[Line::Not(0); 4096], 8, QuestionFault::Sets, 22)?;
     refused(&[Line::Not(0); 2], 1, QuestionFault::Sets, 22)?;
     refused(&[Line::Not(0)], 1, QuestionFault::Line(0), 23)?;
-    refused(&[Line::True, Line::Mark(16), Line::Not(9)], 3, QuestionFault::Line(1), 23)?;
-    refused(&[Line::True, Line::True, Line::Or(0, 2)], 3, QuestionFault::Line(2), 23)?;
-    refused(&[Line::True, Line::Next(three, 0)], 8, QuestionFault::Line(1), 23)?;
-    refused(&[Line::True, Line::Until(Coalition::new(3), 1, 0)], 8, QuestionFault::Line(1), 23)
+    refused(
+        &[Line::True, Line::Mark(16), Line::Not(9)],
+        3,
+        QuestionFault::Line(1),
+        23,
+    )?;
+    refused(
+        &[Line::True, Line::True, Line::Or(0, 2)],
+        3,
+        QuestionFault::Line(2),
+        23,
+    )?;
+    refused(
+        &[Line::True, Line::Next(three, 0)],
+        8,
+        QuestionFault::Line(1),
+        23,
+    )?;
+    refused(
+        &[Line::True, Line::Until(Coalition::new(3), 1, 0)],
+        8,
+        QuestionFault::Line(1),
+        23,
+    )
 }
 
 #[test]
@@ -53,7 +73,11 @@ fn accepted() -> Result<(), Fail> {
         return Err(Fail::new("no ring"));
     };
     let mut sets = [StateSet::single(9); 4];
-    let lines = [Line::Mark(0), Line::Mark(15), Line::Next(Coalition::new(3), 0)];
+    let lines = [
+        Line::Mark(0),
+        Line::Mark(15),
+        Line::Next(Coalition::new(3), 0),
+    ];
     match evaluate(&ring, &lines, &mut sets) {
         Ok(answer) => check(answer.word() == 35)?,
         Err(_) => return Err(Fail::new("the question is refused")),
