@@ -75,27 +75,24 @@ impl StateSet {
     pub fn union(self, other: StateSet) -> StateSet
         ensures { λ r. ⌜ ((s : ℕ) → T (member r s) ↔ (T (member self s) ⊎ T (member other s))) ⌝ }
     {
-        StateSet {
-            bits: self.bits | other.bits,
-        }
+        let bits = self.bits | other.bits;
+        StateSet { bits }
     }
 
     /// What is in both.
     pub fn intersection(self, other: StateSet) -> StateSet
         ensures { λ r. ⌜ ((s : ℕ) → T (member r s) ↔ (T (member self s) × T (member other s))) ⌝ }
     {
-        StateSet {
-            bits: self.bits & other.bits,
-        }
+        let bits = self.bits & other.bits;
+        StateSet { bits }
     }
 
     /// What is in this one and not in the other.
     pub fn difference(self, other: StateSet) -> StateSet
         ensures { λ r. ⌜ ((s : ℕ) → T (member r s) ↔ (T (member self s) × (T (member other s) → ⊥))) ⌝ }
     {
-        StateSet {
-            bits: self.bits & !other.bits,
-        }
+        let bits = self.bits & !other.bits;
+        StateSet { bits }
     }
 
     /// Whether it holds nothing.
