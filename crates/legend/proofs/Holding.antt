@@ -3,12 +3,17 @@ use mathlib.Core.Path.{_≡_, sym, subst, _∙_}
 use mathlib.Core.Logic.{inl, inr, ∥∥₁-elim}
 use mathlib.Core.List.{List, [], _∷_, _++_}
 use Prim.Native.Nat.{ℕ, _+_, _<_, _≤_}
+use native.Mathlib.Bridge.{le-prop}
+use native.Mathlib.Nat.{ℕ-set}
 use native.Mathlib.Omega.{arith}
 use lib.ListN.{length, getD, take}
 use lib.Seq.{length-take-le, getD-take}
 use Rattle.std.proofs.shelf.Lists.{getD-append-left, getD-push, length-push}
 use Rattle.std.proofs.shelf.Tests.{cases-lt}
 use Rattle.legend.specs.Names.{Name, Lawful}
+use Rattle.legend.specs.Legends.{namesOf}
+use Rattle.legend.specs.declared.Legend.{Legend}
+use Rattle.legend.proofs.Spelling.{name-length}
 
 pub none-lawful : Lawful []
 none-lawful = record { few = omega arith; each = λ i h. absurd (omega arith); differ = λ i j h l. absurd (omega arith) }
@@ -39,3 +44,10 @@ module _ (names : List (List ℕ)) (name : List ℕ) where
   last-new l i h e =
       l .differ i (length names) h (omega (arith, length-push names name))
       (getD-append-left names _ [] i h ∙ e ∙ sym (getD-push names name [] (length names) (omega arith)))
+
+-- a legend's names are few, and each has eight bytes
+pub names-few : (l : Legend) → length (namesOf l) ≤ 16
+names-few l = ∥∥₁-elim (l .lawful) le-prop (λ h. h .few)
+
+pub name-eight : (l : Legend) (i : ℕ) → i < length (namesOf l) → length (getD (namesOf l) i []) ≡ 8
+name-eight l i h = ∥∥₁-elim (l .lawful) (ℕ-set _ _) (λ law. name-length (law .each i h))

@@ -1,2 +1,2 @@
-mod Holding
-mod Spelling
+pub mod Holding
+pub mod Spelling

@@ -1,0 +1,3 @@
+//! The model file.
+mod put;
+pub mod write;
