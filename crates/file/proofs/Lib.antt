@@ -1,2 +1,4 @@
+pub mod Filing
+pub mod Once
 mod Putting
 mod Spanning

@@ -41,7 +41,7 @@ impl WriteFault {
 }
 
 /// Whether each of the marks is one of the first `names`.
-fn among(marks: u16, names: u8) -> bool
+pub fn among(marks: u16, names: u8) -> bool
     ensures { λ r. ⌜ (T r ↔ (marks < 2 ^ names)) ⌝ }
 {
     names >= 16 || marks >> names == 0

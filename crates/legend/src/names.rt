@@ -65,7 +65,7 @@ impl Legend {
 
     /// Adds a name for the next mark and answers the mark's number, or answers none and leaves the legend where the names would break the rule.
     pub fn add(&mut self, name: [u8; 8]) -> Option<u8>
-        ensures { λ r. ⌜ Cases r ((now (self .exit) ≡ now (self .entry)) × (Lawful (namesOf (now (self .entry)) ++ name ∷ []) → ⊥)) (λ i. (i ≡ length (namesOf (now (self .entry)))) × (namesOf (now (self .exit)) ≡ namesOf (now (self .entry)) ++ name ∷ [])) ⌝ }
+        ensures { λ r. ⌜ Cases r ((now (self .exit) ≡ now (self .entry)) × (Lawful (namesOf (now (self .entry)) ++ name ∷ []) → ⊥)) (λ i. (i ≡ length (namesOf (now (self .entry)))) × (namesOf (now (self .exit)) ≡ namesOf (now (self .entry)) ++ name ∷ []) × (Lawful (namesOf (now (self .entry))) → Lawful (namesOf (now (self .entry)) ++ name ∷ []))) ⌝ }
     {
         if self.count >= 16 || !is_name(&name) {
             return None;

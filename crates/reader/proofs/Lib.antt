@@ -1,0 +1,5 @@
+mod Exits
+mod Going
+mod Naming
+mod Outing
+mod Standing
