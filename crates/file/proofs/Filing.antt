@@ -61,8 +61,12 @@ file-commands M names =
     let m = length names in
     let end = finish (outcomes M (M .n)) ∷ [] in
     let a : joined encode (upto (nameAt names) m ++ (upto (stateAt M) (M .n) ++ end)) ≡ upto (nameBytes names) m ++ (upto (stateBytes M) (M .n) ++ encode (finish (outcomes M (M .n)))) =
-          cc (joined-append encode (upto (nameAt names) m) (upto (stateAt M) (M .n) ++ end), joined-append encode (upto (stateAt M) (M .n)) end,
-              names-spelled names m, states-spelled M (M .n)) in
+    cc (
+      joined-append encode (upto (nameAt names) m) (upto (stateAt M) (M .n) ++ end),
+      joined-append encode (upto (stateAt M) (M .n)) end,
+      names-spelled names m,
+      states-spelled M (M .n),
+    ) in
     ap (λ (l : List ℕ). encode (begin (M .k) (M .n) m) ++ l) a ∙ file-parts M names
 
 -- a row of readings, from moment to moment
@@ -158,7 +162,7 @@ module _ {M : Model} {names : List (List ℕ)} (able : Fileable M names) where
       let law : Lawful (take i names ++ getD names i [] ∷ []) = rw next at (lawful-take (able .lawful) (i + 1) (omega arith)) in
       let here : code (name i (getD names i [])) ≡ due (naming M names i) = sym (due-name (naming M names i) refl (able .ranged .agents .0) (omega arith)) in
       leads-to {t = told M names (take i names ++ getD names i [] ∷ [])} (ap (told M names) (sym next))
-        (more (name i (getD names i [])) (name-length (able .lawful .each i l)) here (sym long, law) none)
+      (more (name i (getD names i [])) (name-length (able .lawful .each i l)) here (sym long, law) none)
 
   -- the outcome of the joint move j
   pub out-leads : (s j : ℕ) → s < M .n → j < joint M s → Leads (within M names s j) (outAt M s j) (within M names s (j + 1))
@@ -181,12 +185,12 @@ module _ {M : Model} {names : List (List ℕ)} (able : Fileable M names) where
   head-leads s l =
       let here : code (state (M .marks s) (countsAt M s)) ≡ due (between M names s) = sym (due-state (between M names s) refl (able .ranged .agents .0) (omega arith) refl l) in
       leads-to (moment-same M names (s + 1) (omega (arith, joint-written M s (able .ranged .agents .1))) (omega arith))
-        (more (state (M .marks s) (countsAt M s)) refl here (able .named s l, counts-keep s l) none)
+      (more (state (M .marks s) (countsAt M s)) refl here (able .named s l, counts-keep s l) none)
 
   pub state-leads : (s : ℕ) → s < M .n → Leads (between M names s) (stateAt M s) (between M names (s + 1))
   state-leads s l =
       leads-append (head-leads s l)
-        (leads-to (moment-same M names (s + 1) (omega arith) (sym (outcomes-more M s))) (leads-upto (within M names s) (outAt M s) (joint M s) (λ j h. out-leads s j l h)))
+      (leads-to (moment-same M names (s + 1) (omega arith) (sym (outcomes-more M s))) (leads-upto (within M names s) (outAt M s) (joint M s) (λ j h. out-leads s j l h)))
 
   pub names-lead : (i : ℕ) → i ≤ length names → Leads (naming M names 0) (upto (nameAt names) i) (naming M names i)
   names-lead i h = leads-upto (naming M names) (nameAt names) i (λ a l. name-leads a (omega arith))
@@ -201,11 +205,12 @@ module _ {M : Model} {names : List (List ℕ)} (able : Fileable M names) where
   pub file-leads : (t : Seen) × Leads nothing (commandsOf M names) t × (t .ended ≡ true)
   file-leads =
       let end = finish (outcomes M (M .n)) in
-      let here : code end ≡ due (between M names (M .n)) = sym (due-end (between M names (M .n)) refl (able .ranged .agents .0) (omega arith) refl (omega arith)) in
-      (after (between M names (M .n)) end,
-       more (begin (M .k) (M .n) (length names)) tt refl (able .ranged .agents, able .ranged .states, able .lawful .few)
-         (leads-append (leads-to all-named (names-lead (length names) (omega arith))) (leads-append (states-lead (M .n) (omega arith)) (more end tt here refl none))),
-       refl)
+      let here : code end ≡ due (between M names (M .n)) = sym (due-end (between M names (M .n)) refl (able .ranged .agents .0) (omega arith) refl (omega arith)) in (
+        after (between M names (M .n)) end,
+        more (begin (M .k) (M .n) (length names)) tt refl (able .ranged .agents, able .ranged .states, able .lawful .few)
+            (leads-append (leads-to all-named (names-lead (length names) (omega arith))) (leads-append (states-lead (M .n) (omega arith)) (more end tt here refl none))),
+        refl,
+      )
 
 -- what a refusal is given for begins with no file
 pub no-file : {input : List ℕ} {a p : ℕ} {M : Model} {names : List (List ℕ)} (r : List ℕ) → Refused input a p → Begins input M names r → ⊥
@@ -251,14 +256,14 @@ module _ (M N : Model) (agents : M .k ≡ N .k) (six : M .k ≤ 6) where
       let tails : upto (outAt M s) (joint M s) ++ a ≡ upto (outAt N s) (joint N s) ++ b = cc in
       let counted : countsAt M s ≡ countsAt N s = ap countsIn heads in
       let joints : joint M s ≡ joint N s =
-            sym (joint-written M s six) ∙ ap (λ (x : List ℕ). moves everyone (λ i. getD x i 0) (M .k)) counted
-            ∙ ap (moves everyone (λ i. getD (countsAt N s) i 0)) agents ∙ joint-written N s (omega arith) in
+      sym (joint-written M s six) ∙ ap (λ (x : List ℕ). moves everyone (λ i. getD x i 0) (M .k)) counted
+      ∙ ap (moves everyone (λ i. getD (countsAt N s) i 0)) agents ∙ joint-written N s (omega arith) in
       record {
         marked = cc heads;
         counted = counted;
         joints = joints;
         outs = fronts-same (upto (outAt M s) (joint M s)) (upto (outAt N s) (joint N s)) a b
-          (omega (arith, length-upto (outAt M s) 1 (joint M s) (λ _ _. refl), length-upto (outAt N s) 1 (joint N s) (λ _ _. refl))) tails .0;
+            (omega (arith, length-upto (outAt M s) 1 (joint M s) (λ _ _. refl), length-upto (outAt N s) 1 (joint N s) (λ _ _. refl))) tails .0;
       }
     where
       countsIn : Command → List ℕ
@@ -275,7 +280,7 @@ module _ (M N : Model) (agents : M .k ≡ N .k) (six : M .k ≤ 6) where
         let (w, p) = upto-front (stateAt M) s n l in
         let (v, q) = upto-front (stateAt N) s n l in
         state-same s w v (append-cancel-left (upto (stateAt M) s) (stateAt M s ++ w) (stateAt N s ++ v)
-          (sym p ∙ rows ∙ q ∙ ap (λ (x : List Command). x ++ (stateAt N s ++ v)) (sym e)))
+        (sym p ∙ rows ∙ q ∙ ap (λ (x : List Command). x ++ (stateAt N s ++ v)) (sym e)))
 
     rows-before : (s : ℕ) → s ≤ n → upto (stateAt M) s ≡ upto (stateAt N) s
     rows-before zero h = refl
@@ -298,27 +303,28 @@ commands-same M N names others six e =
     let states : M .n ≡ N .n = cc starts in
     let long : m ≡ length others = cc starts in
     let tails : upto (nameAt names) m ++ (upto (stateAt M) (M .n) ++ finish (outcomes M (M .n)) ∷ [])
-              ≡ upto (nameAt others) (length others) ++ (upto (stateAt N) (N .n) ++ finish (outcomes N (N .n)) ∷ []) = cc in
+    ≡ upto (nameAt others) (length others) ++ (upto (stateAt N) (N .n) ++ finish (outcomes N (N .n)) ∷ []) = cc in
     let (named, after) = fronts-same (upto (nameAt names) m) (upto (nameAt others) (length others)) _ _
-          (omega (arith, length-upto (nameAt names) 1 m (λ _ _. refl), length-upto (nameAt others) 1 (length others) (λ _ _. refl))) tails in
+    (omega (arith, length-upto (nameAt names) 1 m (λ _ _. refl), length-upto (nameAt others) 1 (length others) (λ _ _. refl))) tails in
     let told : upto (nameAt names) m ≡ upto (nameAt others) m = named ∙ ap (upto (nameAt others)) (sym long) in
     let (rows, _) = same-from-push (upto (stateAt M) (M .n)) (upto (stateAt N) (N .n)) _ _ after in
-    let same : (s : ℕ) → s < M .n → StateSame M N s = states-same M N agents six (M .n) (rows ∙ ap (upto (stateAt N)) (sym states)) in
-    (record {
-       states = states;
-       agents = agents;
-       marked = λ s l. same s l .marked;
-       counted = λ s a l h.
-           sym (count-below M s a six h) ∙ ap (λ (x : List ℕ). getD x a 0) (same s l .counted) ∙ count-below N s a (omega arith) (omega arith);
-       leads = λ s j l h.
-           let x = same s l in
-           let outs : out (M .out s j) ≡ out (N .out s j) =
-                 items-same (λ i. out (M .out s i)) (λ i. out (N .out s i)) (joint M s) j (x .outs ∙ ap (upto (outAt N s)) (sym (x .joints))) h in
-           cc outs;
-     },
-     ext-getD [] names others long (λ i l.
-       let here : name i (getD names i []) ≡ name i (getD others i []) = items-same (λ j. name j (getD names j [])) (λ j. name j (getD others j [])) m i told l in
-       cc here))
+    let same : (s : ℕ) → s < M .n → StateSame M N s = states-same M N agents six (M .n) (rows ∙ ap (upto (stateAt N)) (sym states)) in (
+      record {
+        states = states;
+        agents = agents;
+        marked = λ s l. same s l .marked;
+        counted = λ s a l h.
+            sym (count-below M s a six h) ∙ ap (λ (x : List ℕ). getD x a 0) (same s l .counted) ∙ count-below N s a (omega arith) (omega arith);
+        leads = λ s j l h.
+            let x = same s l in
+            let outs : out (M .out s j) ≡ out (N .out s j) =
+            items-same (λ i. out (M .out s i)) (λ i. out (N .out s i)) (joint M s) j (x .outs ∙ ap (upto (outAt N s)) (sym (x .joints))) h in
+            cc outs;
+      },
+      ext-getD [] names others long (λ i l.
+          let here : name i (getD names i []) ≡ name i (getD others i []) = items-same (λ j. name j (getD names j [])) (λ j. name j (getD others j [])) m i told l in
+          cc here),
+    )
 
 pub begins-same : {input : List ℕ} {M N : Model} {names others : List (List ℕ)} {r q : List ℕ} → Begins input M names r → Begins input N others q →
     Same M N × (names ≡ others) × (r ≡ q)
@@ -326,7 +332,7 @@ begins-same {input} {M} {N} {names} {others} {r} {q} (able, e) (fit, h) =
     let (t, a, x) = file-leads able in
     let (u, b, y) = file-leads fit in
     let both : joined encode (commandsOf M names) ++ r ≡ joined encode (commandsOf N others) ++ q =
-          ap (λ (l : List ℕ). l ++ r) (file-commands M names) ∙ sym e ∙ h ∙ ap (λ (l : List ℕ). l ++ q) (sym (file-commands N others)) in
+    ap (λ (l : List ℕ). l ++ r) (file-commands M names) ∙ sym e ∙ h ∙ ap (λ (l : List ℕ). l ++ q) (sym (file-commands N others)) in
     let (commands, rests) = ended-once a x b y both in
     let (same, named) = commands-same M N names others (able .ranged .agents .1) commands in
     (same, named, rests)

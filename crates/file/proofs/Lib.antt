@@ -1,4 +1,4 @@
 pub mod Filing
 pub mod Once
 mod Putting
-mod Spanning
+pub mod Spanning

@@ -101,9 +101,9 @@ fails-verdict {s} {rest} (short r e l) =
 fails-verdict {s} {rest} (breaks c r f e d h) =
     let x = operands c ++ r in
     sym (ap (verdict s) (e ∙ front c r)
-      ∙ cond-true (eqb (code c) (due s)) _ 2 (eq-eqb (code c) (due s) d)
-      ∙ cond-false (ltb (length x) (size (due s))) 1 _ (le-ltb (length x) (size (due s)) (omega (arith, ap size d, long c r f)))
-      ∙ ap (broken s) (ap decode (sym (front c r)) ∙ decode-encode c f r))
+    ∙ cond-true (eqb (code c) (due s)) _ 2 (eq-eqb (code c) (due s) d)
+    ∙ cond-false (ltb (length x) (size (due s))) 1 _ (le-ltb (length x) (size (due s)) (omega (arith, ap size d, long c r f)))
+    ∙ ap (broken s) (ap decode (sym (front c r)) ∙ decode-encode c f r))
 
 pub fails-once : {s : Seen} {rest : List ℕ} {a b : ℕ} → Fails s rest a → Fails s rest b → a ≡ b
 fails-once x y = fails-verdict x ∙ sym (fails-verdict y)
@@ -127,10 +127,10 @@ compare r q (more {cs = cs} c f d k a) none e =
     inr (inr (record { command = c; rest = joined encode cs ++ r; formed = f; on-time = d; keeps = k; stands = sym e ∙ append-assoc (encode c) (joined encode cs) r }))
 compare {s} {t} {u} r q (more {cs = cs} c f d k a) (more {cs = ds} c′ f′ d′ k′ b) e =
     let whole : encode c ++ (joined encode cs ++ r) ≡ encode c′ ++ (joined encode ds ++ q) =
-          sym (append-assoc (encode c) (joined encode cs) r) ∙ e ∙ append-assoc (encode c′) (joined encode ds) q in
+    sym (append-assoc (encode c) (joined encode cs) r) ∙ e ∙ append-assoc (encode c′) (joined encode ds) q in
     let same : c ≡ c′ = encode-once c c′ (joined encode cs ++ r) (joined encode ds ++ q) f f′ whole in
     let tails : joined encode cs ++ r ≡ joined encode ds ++ q =
-          append-cancel-left (encode c) (joined encode cs ++ r) (joined encode ds ++ q) (whole ∙ ap (λ (x : Command). encode x ++ (joined encode ds ++ q)) (sym same)) in
+    append-cancel-left (encode c) (joined encode cs ++ r) (joined encode ds ++ q) (whole ∙ ap (λ (x : Command). encode x ++ (joined encode ds ++ q)) (sym same)) in
     let b′ : Leads (after s c) ds u = subst (λ (x : Command). Leads (after s x) ds u) (sym same) b in
     elim (compare r q a b′ tails) [
       | inl (x, y, z) ↦ inl (cc, y, z)
@@ -147,9 +147,10 @@ next-ended {s} x h = code-some (x .command) (x .on-time ∙ cond-true (s .ended)
 pub refused-once : {input : List ℕ} {a b p q : ℕ} → Refused input a p → Refused input b q → (a ≡ b) × (p ≡ q)
 refused-once {input} {a} {b} x y =
     elim (compare (x .rest) (y .rest) (x .leads) (y .leads) (sym (x .bytes) ∙ y .bytes)) [
-      | inl (cs, t, r) ↦
-          (fails-once (x .fails) (subst (λ (s : Seen). Fails s (x .rest) b) (sym t) (subst (λ (l : List ℕ). Fails (y .seen) l b) (sym r) (y .fails))),
-           x .place-is ∙ ap (λ (l : List Command). length (joined encode l)) cs ∙ sym (y .place-is))
+      | inl (cs, t, r) ↦ (
+        fails-once (x .fails) (subst (λ (s : Seen). Fails s (x .rest) b) (sym t) (subst (λ (l : List ℕ). Fails (y .seen) l b) (sym r) (y .fails))),
+        x .place-is ∙ ap (λ (l : List Command). length (joined encode l)) cs ∙ sym (y .place-is),
+      )
       | inr (inl n) ↦ absurd (next-fails n (x .fails))
       | inr (inr n) ↦ absurd (next-fails n (y .fails))
     ]

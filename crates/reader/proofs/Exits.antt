@@ -29,8 +29,8 @@ module _ (input : List ℕ) (at code operands : ℕ) where
       (s : Seen) → due s ≡ code → size code ≡ operands → Fails s (drop at input) (ruleNumber rule)
   short-there h c few rule e s d z =
       subst (λ (r : FileRule). Fails s (drop at input) (ruleNumber r)) (sym e)
-        (Fails.short (drop (at + 1) input) (drop-more input at 0 h ∙ ap (λ (b : ℕ). b ∷ drop (at + 1) input) (c ∙ sym d))
-          (subst (λ (x : ℕ). length (drop (at + 1) input) < size x) (sym d) (omega (arith, length-drop (at + 1) input, z))))
+      (Fails.short (drop (at + 1) input) (drop-more input at 0 h ∙ ap (λ (b : ℕ). b ∷ drop (at + 1) input) (c ∙ sym d))
+      (subst (λ (x : ℕ). length (drop (at + 1) input) < size x) (sym d) (omega (arith, length-drop (at + 1) input, z))))
 
 pub at-exit-made : {T E : Type 0} (P : T → Type 0) (r : Result T E) (d : E) → ErrBy r (λ y. y ≡ d) → made r P
 at-exit-made P (Ok x) d h = absurd h

@@ -37,7 +37,7 @@ module _ {input : List ℕ} {at : ℕ} {cs : List Command} {s : Seen} (so : Sofa
       record {
         leads = leads-push (so .leads) c f d k;
         bytes = so .bytes ∙ ap (λ (l : List ℕ). joined encode cs ++ l) stands ∙ sym (append-assoc (joined encode cs) (encode c) (drop to input))
-          ∙ ap (λ (l : List ℕ). l ++ drop to input) longer;
+            ∙ ap (λ (l : List ℕ). l ++ drop to input) longer;
         place = omega (arith, ends, so .place, length-append (joined encode cs) (encode c), ap length longer);
         within = within;
       }

@@ -25,6 +25,6 @@ due-name k n m names h l = rw (ne-eqb k 0 (λ e. omega arith), lt-ltb (length na
 pub names-more : (names : List (List ℕ)) (b : List ℕ) (i : ℕ) → length names ≡ i → upto (nameCommand names) i ++ (name i b ∷ []) ≡ upto (nameCommand (names ++ b ∷ [])) (i + 1)
 names-more names b i e =
     ap₂ _++_
-      (upto-same (nameCommand names) (nameCommand (names ++ b ∷ [])) i (λ j l. ap (λ (x : List ℕ). name j x ∷ []) (sym (getD-append-left names (b ∷ []) [] j (omega arith)))))
-      (ap (λ (x : List ℕ). name i x ∷ []) (sym (getD-push names b [] i e)))
+    (upto-same (nameCommand names) (nameCommand (names ++ b ∷ [])) i (λ j l. ap (λ (x : List ℕ). name j x ∷ []) (sym (getD-append-left names (b ∷ []) [] j (omega arith)))))
+    (ap (λ (x : List ℕ). name i x ∷ []) (sym (getD-push names b [] i e)))
     ∙ rw add-one

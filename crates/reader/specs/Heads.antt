@@ -46,3 +46,18 @@ pub record Naming (s : Seen) : Type 0 where
 -- the moment j outcomes later
 abbrev pub outsSeen : Seen → ℕ → Seen
 outsSeen s j = record { k = s .k; n = s .n; m = s .m; names = s .names; states = s .states; left = s .left - j; outs = s .outs + j; ended = s .ended }
+
+-- the moment after one more state with j outcomes
+abbrev pub stateSeen : Seen → ℕ → Seen
+stateSeen s j = record { k = s .k; n = s .n; m = s .m; names = s .names; states = s .states + 1; left = 0; outs = s .outs + j; ended = s .ended }
+
+-- a state keeps its rules, for n states, k agents and m marks
+pub record Kept (n k m : ℕ) (x : State) : Type 0 where
+  pub six : length (x .counts) ≡ 6
+  pub declared : x .marks < 2 ^ m
+  pub counts : Counts k (x .counts)
+  pub inside : (j : ℕ) → j < moves everyone (countsAt x) k → getD (x .outcomes) j 0 < n
+
+-- the moment after some states
+abbrev pub bodySeen : ℕ → ℕ → ℕ → List (List ℕ) → ℕ → ℕ → Seen
+bodySeen k n m names s total = record { k = k; n = n; m = m; names = names; states = s; left = 0; outs = total; ended = false }

@@ -1,3 +1,5 @@
+pub mod Bodies
 pub mod Faults
 pub mod Heads
 pub mod Sofar
+pub mod Whole

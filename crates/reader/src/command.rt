@@ -25,7 +25,12 @@ fn byte(input: &[u8], at: usize, place: usize) -> Result<u8, FileFault>
 }
 
 /// The command with this code and so many operands stands at a place, or a fault there says what is wrong.
-pub(crate) fn command(input: &[u8], place: usize, code: u8, operands: usize) -> Result<(), FileFault>
+pub(crate) fn command(
+    input: &[u8],
+    place: usize,
+    code: u8,
+    operands: usize,
+) -> Result<(), FileFault>
     requires { ⌜ place ≤ length (now input) ⌝ }
     requires { ⌜ operands < 16 ⌝ }
     ensures { λ r. ⌜ Cases r (λ _. Stands (now (input .entry)) place code operands) (λ f. (f .place ≡ place) × ((s : Seen) → due s ≡ code → size code ≡ operands → Fails s (drop place (now (input .entry))) (ruleNumber (f .rule)))) ⌝ }

@@ -1,8 +1,11 @@
 //! Reading model files.
-pub mod fault;
-
+mod body;
 mod command;
+pub mod fault;
 mod head;
 mod header;
+mod model_file;
 mod names;
 mod outs;
+
+pub use model_file::read;

@@ -47,6 +47,8 @@ pub returns-in-None : need.returns-in-None
 returns-in-None c =
     let l = c .args .self .now in
     let within : l .count < length (l .names) = omega arith in
-    let long = length-take-le (l .count) (l .names) (omega arith) in
-    (omega (arith, long), take-more-set (l .names) (l .count) (c .args .name) within,
-     λ old. lawful-more (namesOf l) (c .args .name) old (omega (arith, long, c .if-self-ge16 .left)) (c .if-not-is-name .ensures tt .0 tt) (c .in-None .ensures tt))
+    let long = length-take-le (l .count) (l .names) (omega arith) in (
+      omega (arith, long),
+      take-more-set (l .names) (l .count) (c .args .name) within,
+      λ old. lawful-more (namesOf l) (c .args .name) old (omega (arith, long, c .if-self-ge16 .left)) (c .if-not-is-name .ensures tt .0 tt) (c .in-None .ensures tt),
+    )

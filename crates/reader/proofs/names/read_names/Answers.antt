@@ -15,10 +15,14 @@ use Rattle.reader.proofs.names.read_names.Needs as need
 
 pub loop-i-holds : need.loop-i-holds
 loop-i-holds c =
-    let none = c .empty-legend .ensures in
-    (c .pre, λ k n so some.
-      (subst (λ (l : List (List ℕ)). Sofar (c .args .input .now) 4 (begin k n (c .args .marks) ∷ []) (named k n (c .args .marks) l)) (sym none) so,
-       ap length none, subst Lawful (sym none) none-lawful))
+    let none = c .empty-legend .ensures in (
+      c .pre,
+      λ k n so some. (
+        subst (λ (l : List (List ℕ)). Sofar (c .args .input .now) 4 (begin k n (c .args .marks) ∷ []) (named k n (c .args .marks) l)) (sym none) so,
+        ap length none,
+        subst Lawful (sym none) none-lawful,
+      ),
+    )
 
 pub read-name-requires : need.read-name-requires
 read-name-requires c κs = c .loop-i .inv .0
@@ -27,7 +31,7 @@ pub returns-in-Break-read-name : need.returns-in-Break-read-name
 returns-in-Break-read-name c k n so some =
     let inv = c .loop-i .inv .1 k n so some in
     at-exit _ _ (c .from-residual .result) _ (c .from-residual .ensures .1)
-      (c .in-Break-read-name .ensures tt .reads _ _ (inv .0) refl (due-name k n (c .args .marks) (namesOf (c .loop-i .legend)) some (omega (arith, inv .1, c .loop-i-test .taken))) refl (inv .2))
+    (c .in-Break-read-name .ensures tt .reads _ _ (inv .0) refl (due-name k n (c .args .marks) (namesOf (c .loop-i .legend)) some (omega (arith, inv .1, c .loop-i-test .taken))) refl (inv .2))
 
 pub loop-i-again : need.loop-i-again
 loop-i-again c =
@@ -36,23 +40,26 @@ loop-i-again c =
     let i = c .loop-i .i in
     let names = namesOf (c .loop-i .legend) in
     let b = bytesAt input (4 + i * 10 + 2) 8 in
-    let told = c .in-Continue-read-name .ensures tt in
-    (omega (arith, told .within), λ k n so some.
-      let inv = c .loop-i .inv .1 k n so some in
-      let next = told .reads _ _ (inv .0) refl (due-name k n m names some (omega (arith, inv .1, c .loop-i-test .taken))) refl (inv .2) in
-      let same : (begin k n m ∷ upto (nameCommand names) i) ++ name (length names) b ∷ [] ≡ begin k n m ∷ upto (nameCommand (namesOf (c .read-name .last .legend))) (i + 1) =
-            ap (λ (j : ℕ). begin k n m ∷ (upto (nameCommand names) i ++ name j b ∷ [])) (inv .1)
-            ∙ ap (λ (l : List Command). begin k n m ∷ l) (names-more names b i (inv .1))
-            ∙ ap (λ (l : List (List ℕ)). begin k n m ∷ upto (nameCommand l) (i + 1)) (sym (next .1)) in
-      (subst (λ (at : ℕ). Sofar input at (begin k n m ∷ upto (nameCommand (namesOf (c .read-name .last .legend))) (i + 1)) (named k n m (namesOf (c .read-name .last .legend)))) (omega arith)
-         (subst (λ (l : List (List ℕ)). Sofar input (4 + i * 10 + 10) (begin k n m ∷ upto (nameCommand (namesOf (c .read-name .last .legend))) (i + 1)) (named k n m l)) (sym (next .1))
-           (subst (λ (cs : List Command). Sofar input (4 + i * 10 + 10) cs (named k n m (names ++ b ∷ []))) same (next .0))),
-       omega (arith, ap length (next .1), length-push names b, inv .1),
-       next .2))
+    let told = c .in-Continue-read-name .ensures tt in (
+      omega (arith, told .within),
+      λ k n so some.
+          let inv = c .loop-i .inv .1 k n so some in
+          let next = told .reads _ _ (inv .0) refl (due-name k n m names some (omega (arith, inv .1, c .loop-i-test .taken))) refl (inv .2) in
+          let same : (begin k n m ∷ upto (nameCommand names) i) ++ name (length names) b ∷ [] ≡ begin k n m ∷ upto (nameCommand (namesOf (c .read-name .last .legend))) (i + 1) =
+          ap (λ (j : ℕ). begin k n m ∷ (upto (nameCommand names) i ++ name j b ∷ [])) (inv .1)
+          ∙ ap (λ (l : List Command). begin k n m ∷ l) (names-more names b i (inv .1))
+          ∙ ap (λ (l : List (List ℕ)). begin k n m ∷ upto (nameCommand l) (i + 1)) (sym (next .1)) in (
+            subst (λ (at : ℕ). Sofar input at (begin k n m ∷ upto (nameCommand (namesOf (c .read-name .last .legend))) (i + 1)) (named k n m (namesOf (c .read-name .last .legend)))) (omega arith)
+                (subst (λ (l : List (List ℕ)). Sofar input (4 + i * 10 + 10) (begin k n m ∷ upto (nameCommand (namesOf (c .read-name .last .legend))) (i + 1)) (named k n m l)) (sym (next .1))
+                (subst (λ (cs : List Command). Sofar input (4 + i * 10 + 10) cs (named k n m (names ++ b ∷ []))) same (next .0))),
+            omega (arith, ap length (next .1), length-push names b, inv .1),
+            next .2,
+          ),
+    )
 
 pub returns : need.returns
 returns c k n so some =
     let inv = c .loop-i .inv .1 k n so some in
     let done : c .loop-i .i ≡ c .args .marks = omega (arith, c .loop-i-test .left, c .loop-i .kept .i-end) in
     subst (λ (i : ℕ). Sofar (c .args .input .now) (4 + i * 10) (begin k n (c .args .marks) ∷ upto (nameCommand (namesOf (c .loop-i .legend))) i) (named k n (c .args .marks) (namesOf (c .loop-i .legend)))
-      × (length (namesOf (c .loop-i .legend)) ≡ i) × Lawful (namesOf (c .loop-i .legend))) done inv
+    × (length (namesOf (c .loop-i .legend)) ≡ i) × Lawful (namesOf (c .loop-i .legend))) done inv

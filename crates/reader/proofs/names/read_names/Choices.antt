@@ -12,5 +12,5 @@ abbrev pub Inv-loop-i : given.InvT-loop-i
 Inv-loop-i l =
     (4 + l .i * 10 ≤ length (l .input)) ×
     ((k n : ℕ) → Sofar (l .input) 4 (begin k n (l .marks) ∷ []) (named k n (l .marks) []) → 1 ≤ k →
-      Sofar (l .input) (4 + l .i * 10) (begin k n (l .marks) ∷ upto (nameCommand (namesOf (l .legend))) (l .i)) (named k n (l .marks) (namesOf (l .legend))) ×
-      (length (namesOf (l .legend)) ≡ l .i) × Lawful (namesOf (l .legend)))
+    Sofar (l .input) (4 + l .i * 10) (begin k n (l .marks) ∷ upto (nameCommand (namesOf (l .legend))) (l .i)) (named k n (l .marks) (namesOf (l .legend))) ×
+    (length (namesOf (l .legend)) ≡ l .i) × Lawful (namesOf (l .legend)))

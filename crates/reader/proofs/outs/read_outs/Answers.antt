@@ -24,7 +24,7 @@ pub returns-in-Break-command : need.returns-in-Break-command
 returns-in-Break-command c = record {
   filled = at-exit-made _ (c .from-residual .result) _ (c .from-residual .ensures .1);
   reads = λ cs s so n left states.
-    at-exit _ _ (c .from-residual .result) _ (c .from-residual .ensures .1)
+      at-exit _ _ (c .from-residual .result) _ (c .from-residual .ensures .1)
       (command-refused (c .loop-j .inv .3 cs s so n left states) 4 1 _ _ (n .going) (outs-due s n (c .loop-j .j) (omega (arith, c .loop-j-test .taken))) refl (c .in-Break-command .ensures tt));
 }
 
@@ -32,7 +32,7 @@ pub returns-then-t-states : need.returns-then-t-states
 returns-then-t-states c = record {
   filled = tt;
   reads = λ cs s so n left states.
-    outs-wrong s n (c .loop-j .j) (c .args .input .now) (c .args .at + c .loop-j .j * 2) _ (c .loop-j .inv .3 cs s so n left states) (omega (arith, c .loop-j-test .taken))
+      outs-wrong s n (c .loop-j .j) (c .args .input .now) (c .args .at + c .loop-j .j * 2) _ (c .loop-j .inv .3 cs s so n left states) (omega (arith, c .loop-j-test .taken))
       (c .in-Continue-command .ensures tt) (omega (arith, c .if-t-states .taken));
 }
 
@@ -46,21 +46,23 @@ loop-j-again c =
     let xs = c .loop-j .state .outcomes in
     let inv = c .loop-j .inv in
     let within : j < length xs = omega (arith, inv .0, c .loop-j-test .taken, c .pre .1) in
-    let there = c .in-Continue-command .ensures tt in
-    (length-set xs j t ∙ inv .0, omega (arith, there .whole),
-     record { marks = inv .2 .marks; counts = inv .2 .counts; inside = fill-more 0 xs j t (λ _ x. x < c .args .states) within (inv .2 .inside) (c .if-t-states .left) },
-     λ cs s so n left states.
-       let next = outs-next s n j input place _ (inv .3 cs s so n left states) (omega (arith, c .loop-j-test .taken)) there (omega (arith, c .if-t-states .left)) in
-       subst (λ (i : ℕ). Sofar input i (cs ++ upto (λ i. out (getD (set xs j t) i 0) ∷ []) (j + 1)) (outsSeen s (j + 1))) (omega arith)
-         (subst (λ (l : List Command). Sofar input (place + 2) l (outsSeen s (j + 1)))
-           (append-assoc cs (upto (λ i. out (getD xs i 0) ∷ []) j) (out t ∷ []) ∙ ap (λ (l : List Command). cs ++ l) (outs-more xs j t within)) next))
+    let there = c .in-Continue-command .ensures tt in (
+      length-set xs j t ∙ inv .0,
+      omega (arith, there .whole),
+      record { marks = inv .2 .marks; counts = inv .2 .counts; inside = fill-more 0 xs j t (λ _ x. x < c .args .states) within (inv .2 .inside) (c .if-t-states .left) },
+      λ cs s so n left states.
+          let next = outs-next s n j input place _ (inv .3 cs s so n left states) (omega (arith, c .loop-j-test .taken)) there (omega (arith, c .if-t-states .left)) in
+          subst (λ (i : ℕ). Sofar input i (cs ++ upto (λ i. out (getD (set xs j t) i 0) ∷ []) (j + 1)) (outsSeen s (j + 1))) (omega arith)
+          (subst (λ (l : List Command). Sofar input (place + 2) l (outsSeen s (j + 1)))
+          (append-assoc cs (upto (λ i. out (getD xs i 0) ∷ []) j) (out t ∷ []) ∙ ap (λ (l : List Command). cs ++ l) (outs-more xs j t within)) next),
+    )
 
 pub returns : need.returns
 returns c =
     let done : c .loop-j .j ≡ c .args .head .joint = omega (arith, c .loop-j-test .left, c .loop-j .kept .j-end) in
     record {
       filled =
-        subst (λ (j : ℕ). Filled (c .args .states) j (c .args .head .state) (c .loop-j .state) × (c .args .at + j * 2 ≤ length (c .args .input .now))) done (c .loop-j .inv .2, c .loop-j .inv .1);
+          subst (λ (j : ℕ). Filled (c .args .states) j (c .args .head .state) (c .loop-j .state) × (c .args .at + j * 2 ≤ length (c .args .input .now))) done (c .loop-j .inv .2, c .loop-j .inv .1);
       reads = λ cs s so n left states.
-        subst (λ (j : ℕ). Sofar (c .args .input .now) (c .args .at + j * 2) (cs ++ upto (outCommand (c .loop-j .state)) j) (outsSeen s j)) done (c .loop-j .inv .3 cs s so n left states);
+          subst (λ (j : ℕ). Sofar (c .args .input .now) (c .args .at + j * 2) (cs ++ upto (outCommand (c .loop-j .state)) j) (outsSeen s j)) done (c .loop-j .inv .3 cs s so n left states);
     }

@@ -12,4 +12,4 @@ abbrev pub Inv-loop-j : given.InvT-loop-j
 Inv-loop-j l =
     (length (l .state .outcomes) ≡ 64) × (l .at + l .j * 2 ≤ length (l .input)) × Filled (l .states) (l .j) (l .entry .state) (l .state) ×
     ((cs : List Command) (s : Seen) → Sofar (l .input) (l .at) cs s → Naming s → s .left ≡ l .j-end → s .n ≡ l .states →
-      Sofar (l .input) (l .at + l .j * 2) (cs ++ upto (outCommand (l .state)) (l .j)) (outsSeen s (l .j)))
+    Sofar (l .input) (l .at + l .j * 2) (cs ++ upto (outCommand (l .state)) (l .j)) (outsSeen s (l .j)))

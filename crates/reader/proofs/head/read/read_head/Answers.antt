@@ -16,7 +16,7 @@ use Rattle.reader.proofs.Going.{sofar-more, sofar-refused}
 use Rattle.reader.proofs.head.read.read_head.Needs as need
 
 module _ {input : List ℕ} {at : ℕ} {cs : List Command} {s : Seen} (so : Sofar input at cs s) (going : s .ended ≡ false) (d : due s ≡ 3) (m : ℕ) (mark : s .m ≡ m) (x : State)
-  (is : Spelled input at x) (there : Stands input at 3 8) where
+    (is : Spelled input at x) (there : Stands input at 3 8) where
   fails : (Keeps s (state (x .marks) (x .counts)) → ⊥) → Refused input (cond (ltb (x .marks) (2 ^ s .m)) 6 5) at
   fails never = sofar-refused so going (Fails.breaks (state (x .marks) (x .counts)) (drop (at + 9) input) (is .six) (is .bytes there) (sym d) never)
 
@@ -48,7 +48,7 @@ returns-in-Some c =
     record {
       head = (record { six = is .six; declared = marks; counts = told .0; joint = told .1 }, omega (arith, there .whole));
       reads = λ cs s so going d k m.
-        sofar-more so (state (x .marks) (x .counts)) (c .args .at + 9) (is .six) (sym d)
+          sofar-more so (state (x .marks) (x .counts)) (c .args .at + 9) (is .six) (sym d)
           (subst (λ (i : ℕ). x .marks < 2 ^ i) (sym m) marks, subst (λ (i : ℕ). Counts i (x .counts)) (sym k) (told .0)) (is .bytes there) (omega (arith, is .six)) (omega (arith, there .whole));
     }
 
@@ -56,5 +56,5 @@ pub returns-in-None : need.returns-in-None
 returns-in-None c = record {
   head = tt;
   reads = λ cs s so going d k m.
-    uncounted so going d (c .args .h .marks) m (c .state-at-x .result) (c .state-at-x .ensures) (c .in-Continue-command .ensures tt) (c .args .h .agents) k (c .if-not-among .ensures tt .0 tt) (c .in-None .ensures tt);
+      uncounted so going d (c .args .h .marks) m (c .state-at-x .result) (c .state-at-x .ensures) (c .in-Continue-command .ensures tt) (c .args .h .agents) k (c .if-not-among .ensures tt .0 tt) (c .in-None .ensures tt);
 }
