@@ -28,7 +28,8 @@ impl Legend {
     pub fn count(&self) -> u8
         ensures { λ r. ⌜ r ≡ length (namesOf (now (self .entry))) ⌝ }
     {
-        self.count
+        let names = self.count;
+        names
     }
 
     /// The name of a mark, or none from the count on.

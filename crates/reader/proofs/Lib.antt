@@ -3,6 +3,7 @@ mod Going
 mod Judging
 mod Naming
 mod Outing
+mod Rounding
 mod Rowing
 mod Standing
 mod Whole

@@ -7,5 +7,9 @@ mod header;
 mod model_file;
 mod names;
 mod outs;
+mod round;
 
 pub use model_file::read;
+pub use round::CopyFault;
+pub use round::copy;
+pub use round::restore;
