@@ -8,7 +8,7 @@ const UNMARKED: State = State {
 };
 
 /// Every outcome is drawn at random, by a fixed sequence.
-pub fn random() -> [State; 64] {
+pub(crate) fn random() -> [State; 64] {
     let mut states = [UNMARKED; 64];
     states[0].marks = 1;
     let mut seed = 7u32;
@@ -22,7 +22,7 @@ pub fn random() -> [State; 64] {
 }
 
 /// Every joint move leads one state down, and from 0 to 0, so that a fixpoint takes 64 rounds.
-pub fn chain() -> [State; 64] {
+pub(crate) fn chain() -> [State; 64] {
     let mut states = [UNMARKED; 64];
     states[0].marks = 1;
     let mut below = 0;

@@ -4,7 +4,7 @@ use sets::coalition::Coalition;
 
 /// What the lines ask.
 #[derive(Clone, Copy, Debug)]
-pub enum Kind {
+pub(crate) enum Kind {
     Next,
     Always,
     Until,
@@ -33,7 +33,7 @@ fn line(kind: Kind, i: usize) -> Line {
 }
 
 /// The question of this kind.
-pub fn question(kind: Kind) -> [Line; 4096] {
+pub(crate) fn question(kind: Kind) -> [Line; 4096] {
     let mut lines = [Line::Mark(0); 4096];
     lines[1] = Line::Not(0);
     lines[2] = Line::True;

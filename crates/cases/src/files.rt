@@ -15,7 +15,7 @@ use sets::coalition::Coalition;
 use std::error::AnyError;
 
 /// Writes the ring with mark 0 named `home`, reads the file, and puts a question to the table that was read.
-pub fn file_cases(rt: &LibcRuntime) -> Result<(), AnyError> {
+pub(crate) fn file_cases(rt: &LibcRuntime) -> Result<(), AnyError> {
     let Ok(ring) = Ring::new(6) else {
         return Err("a ring of 6 positions is refused".into());
     };

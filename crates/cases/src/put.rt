@@ -6,7 +6,12 @@ use sets::state_set::StateSet;
 use std::error::AnyError;
 
 /// Prints the question's title, then the states where it holds as `at: 0 1 5`, or the number of its refusal.
-pub fn ask<G: Game>(rt: &LibcRuntime, g: &G, title: &str, lines: &[Line]) -> Result<(), AnyError> {
+pub(crate) fn ask<G: Game>(
+    rt: &LibcRuntime,
+    g: &G,
+    title: &str,
+    lines: &[Line],
+) -> Result<(), AnyError> {
     println!(rt, "{title}")?;
     let mut sets = [StateSet::empty(); 16];
     match evaluate(g, lines, &mut sets) {

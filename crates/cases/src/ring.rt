@@ -21,7 +21,7 @@ fn outcomes(rt: &LibcRuntime, ring: &Ring) -> Result<(), AnyError> {
 }
 
 /// Both agents together, nobody, and each agent alone: the two push in opposite directions.
-pub fn ring_cases(rt: &LibcRuntime) -> Result<(), AnyError> {
+pub(crate) fn ring_cases(rt: &LibcRuntime) -> Result<(), AnyError> {
     let Ok(ring) = Ring::new(6) else {
         return Err("a ring of 6 positions is refused".into());
     };

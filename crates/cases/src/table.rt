@@ -56,7 +56,7 @@ fn own(rt: &LibcRuntime, table: &Table, number: u8) -> Result<(), AnyError> {
 }
 
 /// Another order of the agents, in the joint moves or in the own choices, would change these answers.
-pub fn table_cases(rt: &LibcRuntime) -> Result<(), AnyError> {
+pub(crate) fn table_cases(rt: &LibcRuntime) -> Result<(), AnyError> {
     let Some(table) = fan() else {
         return Err("the table breaks the ranges".into());
     };

@@ -3,19 +3,15 @@ use mathlib.Core.Path.{_≡_, refl, sym, ap, subst, _∙_}
 use mathlib.Core.Bool.{false}
 use mathlib.Core.List.{List, [], _∷_, _++_, append-assoc}
 use Prim.Native.Nat.{ℕ, zero, suc, _+_, _<_, _≤_}
-use native.Mathlib.Nat.{add-zero, add-suc}
-use native.Mathlib.Numerals.{add-one}
+use native.Mathlib.Nat.{add-zero}
 use native.Mathlib.Omega.{arith}
 use lib.ListN.{length, getD, drop, length-append}
 use Rattle.std.specs.Joined.{joined}
 use Rattle.std.proofs.shelf.Lists.{drop-more, joined-more}
 use Rattle.file.specs.File.{Command, encode, upto}
-use Rattle.file.specs.Reading.{Seen, Leads, none, more, Fails, Formed, Keeps, Refused, after, code, due, nothing, size}
+use Rattle.file.specs.Reading.{Seen, none, Fails, Formed, Keeps, Refused, after, code, due, nothing, size}
+use Rattle.file.proofs.Once.{leads-push}
 use Rattle.reader.specs.Sofar.{Sofar, bytesAt}
-
-pub leads-push : {s t : Seen} {cs : List Command} → Leads s cs t → (c : Command) → Formed c → code c ≡ due t → Keeps t c → Leads s (cs ++ c ∷ []) (after t c)
-leads-push none c f d k = more c f d k none
-leads-push (more b g e h rest) c f d k = more b g e h (leads-push rest c f d k)
 
 -- the bytes from a place on, the first n of them one by one
 pub row : (input : List ℕ) (at n : ℕ) → at + n ≤ length input → drop at input ≡ bytesAt input at n ++ drop (at + n) input

@@ -1,14 +1,14 @@
 -- The names of a file, one after another.
-use mathlib.Core.Path.{_≡_, refl, sym, ap, ap₂, subst, _∙_}
-use mathlib.Core.List.{List, [], _∷_, _++_, append-assoc}
-use Prim.Native.Nat.{ℕ, zero, suc, _+_, _*_, _<_, _≤_}
+use mathlib.Core.Path.{_≡_, refl, sym, ap, ap₂, _∙_}
+use mathlib.Core.List.{List, [], _∷_, _++_}
+use Prim.Native.Nat.{ℕ, zero, suc, _+_, _<_, _≤_}
 use native.Mathlib.Numerals.{add-one}
 use native.Mathlib.Omega.{arith}
 use lib.ListN.{length, getD}
 use Rattle.std.proofs.shelf.Lists.{getD-append-left, getD-push}
-use Rattle.std.proofs.shelf.Tests.{ne-eqb, lt-ltb, le-ltb}
-use Rattle.file.specs.File.{Command, begin, name, upto}
-use Rattle.file.specs.Reading.{Seen, due}
+use Rattle.file.specs.File.{name, upto}
+use Rattle.file.specs.Reading.{due}
+use Rattle.file.proofs.Filing.{due-name}
 use Rattle.reader.specs.Sofar.{nameCommand, named}
 
 pub upto-same : {X : Type 0} (f g : ℕ → List X) (n : ℕ) → ((i : ℕ) → i < n → f i ≡ g i) → upto f n ≡ upto g n
@@ -18,8 +18,8 @@ upto-same f g (suc n) h =
     let here = h n (omega arith) in
     cc
 
-pub due-name : (k n m : ℕ) (names : List (List ℕ)) → 1 ≤ k → length names < m → due (named k n m names) ≡ 2
-due-name k n m names h l = rw (ne-eqb k 0 (λ e. omega arith), lt-ltb (length names) m l)
+pub name-due : (k n m : ℕ) (names : List (List ℕ)) → 1 ≤ k → length names < m → due (named k n m names) ≡ 2
+name-due k n m names some l = due-name (named k n m names) refl some l
 
 -- one name more
 pub names-more : (names : List (List ℕ)) (b : List ℕ) (i : ℕ) → length names ≡ i → upto (nameCommand names) i ++ (name i b ∷ []) ≡ upto (nameCommand (names ++ b ∷ [])) (i + 1)

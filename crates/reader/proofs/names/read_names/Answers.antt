@@ -10,7 +10,7 @@ use Rattle.legend.proofs.Holding.{none-lawful}
 use Rattle.file.specs.File.{Command, begin, name, upto}
 use Rattle.reader.specs.Sofar.{Sofar, bytesAt, nameCommand, named}
 use Rattle.reader.proofs.Exits.{at-exit}
-use Rattle.reader.proofs.Naming.{due-name, names-more}
+use Rattle.reader.proofs.Naming.{name-due, names-more}
 use Rattle.reader.proofs.names.read_names.Needs as need
 
 pub loop-i-holds : need.loop-i-holds
@@ -31,7 +31,7 @@ pub returns-in-Break-read-name : need.returns-in-Break-read-name
 returns-in-Break-read-name c k n so some =
     let inv = c .loop-i .inv .1 k n so some in
     at-exit _ _ (c .from-residual .result) _ (c .from-residual .ensures .1)
-    (c .in-Break-read-name .ensures tt .reads _ _ (inv .0) refl (due-name k n (c .args .marks) (namesOf (c .loop-i .legend)) some (omega (arith, inv .1, c .loop-i-test .taken))) refl (inv .2))
+    (c .in-Break-read-name .ensures tt .reads _ _ (inv .0) refl (name-due k n (c .args .marks) (namesOf (c .loop-i .legend)) some (omega (arith, inv .1, c .loop-i-test .taken))) refl (inv .2))
 
 pub loop-i-again : need.loop-i-again
 loop-i-again c =
@@ -44,7 +44,7 @@ loop-i-again c =
       omega (arith, told .within),
       λ k n so some.
           let inv = c .loop-i .inv .1 k n so some in
-          let next = told .reads _ _ (inv .0) refl (due-name k n m names some (omega (arith, inv .1, c .loop-i-test .taken))) refl (inv .2) in
+          let next = told .reads _ _ (inv .0) refl (name-due k n m names some (omega (arith, inv .1, c .loop-i-test .taken))) refl (inv .2) in
           let same : (begin k n m ∷ upto (nameCommand names) i) ++ name (length names) b ∷ [] ≡ begin k n m ∷ upto (nameCommand (namesOf (c .read-name .last .legend))) (i + 1) =
           ap (λ (j : ℕ). begin k n m ∷ (upto (nameCommand names) i ++ name j b ∷ [])) (inv .1)
           ∙ ap (λ (l : List Command). begin k n m ∷ l) (names-more names b i (inv .1))
