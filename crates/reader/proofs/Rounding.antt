@@ -1,5 +1,5 @@
 -- The bytes, and the model, come back.
-use mathlib.Core.Path.{_≡_, sym, ap, _∙_}
+use mathlib.Core.Path.{_≡_, sym, ap, subst, _∙_}
 use mathlib.Core.Logic.{∥∥₁-elim}
 use mathlib.Core.HLevel.{⊥-prop}
 use mathlib.Core.List.{List, _++_, List·isSet}
@@ -14,7 +14,7 @@ use Rattle.file.specs.File.{fileOf}
 use Rattle.file.specs.Reading.{Begins}
 use Rattle.file.specs.Writing.{Written}
 use Rattle.reader.specs.Whole.{Accepts, Rejects}
-use Rattle.reader.specs.Rounds.{Copied}
+use Rattle.reader.specs.Rounds.{Copied, Restored}
 
 pub copied : {input before after : List ℕ} {M : Model} {names : List (List ℕ)} {len : ℕ} (rest : List ℕ) → Begins input M names rest → Written M names before after len → Copied input before after len
 copied {input} {before} {after} {M} {names} {len} rest b w = record {
@@ -41,7 +41,7 @@ module _ {before after rest : List ℕ} {M T : Model} {names others : List (List
   back : Lawful names → Same M T × (names ≡ others) × (drop len after ≡ rest)
   back l = accepts .only M names (drop len after) (written-begins ranged l w)
 
-  pub same-back : Same M T
+  same-back : Same M T
   same-back = record {
     states = ∥∥₁-elim law (ℕ-set _ _) (λ l. back l .0 .states);
     agents = ∥∥₁-elim law (ℕ-set _ _) (λ l. back l .0 .agents);
@@ -50,5 +50,12 @@ module _ {before after rest : List ℕ} {M T : Model} {names others : List (List
     leads = λ s a i j. ∥∥₁-elim law (ℕ-set _ _) (λ l. back l .0 .leads s a i j);
   }
 
-  pub names-back : others ≡ names
+  names-back : others ≡ names
   names-back = ∥∥₁-elim law (List·isSet (List·isSet ℕ-set) others names) (λ l. sym (back l .1))
+
+  pub restored : Restored M names before after T others
+  restored = record {
+    written = subst (Written M names before after) (w .len) w;
+    same = same-back;
+    named = names-back;
+  }

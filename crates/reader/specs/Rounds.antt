@@ -3,7 +3,7 @@ use mathlib.Core.Path.{_≡_}
 use mathlib.Core.List.{List}
 use Prim.Native.Nat.{ℕ}
 use lib.ListN.{length, take, drop}
-use Rattle.model.specs.Model.{Model}
+use Rattle.model.specs.Model.{Model, Same}
 use Rattle.file.specs.File.{fileOf}
 use Rattle.file.specs.Reading.{Begins}
 use Rattle.file.specs.Writing as writing
@@ -21,6 +21,12 @@ pub record Copied (input before after : List ℕ) (len : ℕ) : Type 0 where
   pub long : len ≡ length (fileOf model names)
   pub same : take len after ≡ take len input
   pub rest : drop len after ≡ drop len before
+
+-- the file of a model and its names now stands at the front of the bytes, those past it are as before, and it gives both back
+pub record Restored (M : Model) (names : List (List ℕ)) (before after : List ℕ) (back : Model) (backNames : List (List ℕ)) : Type 0 where
+  pub written : writing.Written M names before after (length (fileOf M names))
+  pub same : Same M back
+  pub named : backNames ≡ names
 
 -- a file that can't be read, or has more bytes than there are
 abbrev pub Uncopied : List ℕ → ℕ → CopyFault → Type 0

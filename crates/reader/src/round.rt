@@ -12,11 +12,10 @@ use model::table::TableMarked;
 ghost use mathlib.Core.Path.{_≡_};
 ghost use lib.ListN.{length};
 ghost use Rattle.std.specs.Results.{Cases};
-ghost use Rattle.model.specs.Model.{Same};
 ghost use Rattle.model.specs.Kinds.{tableOf};
 ghost use Rattle.legend.specs.Legends.{namesOf};
 ghost use Rattle.file.specs.Writing.{Refused};
-ghost use Rattle.reader.specs.Rounds.{Copied, Uncopied};
+ghost use Rattle.reader.specs.Rounds.{Copied, Uncopied, Restored};
 
 /// Why a file isn't copied: it is refused, or it doesn't fit.
 #[derive(Clone, Copy)]
@@ -46,7 +45,7 @@ pub fn restore<G: Game>(
     legend: &Legend,
     bytes: &mut [u8],
 ) -> Result<(Table, Legend), WriteFault>
-    ensures { λ r. ⌜ Cases r (λ x. Same (G·Game .model (now (g .entry))) (tableOf (x .0 .states) (x .0 .agents) (x .0 .rows)) × (namesOf (x .1) ≡ namesOf (now (legend .entry)))) (λ f. Refused (G·Game .model (now (g .entry))) (namesOf (now (legend .entry))) (length (now (bytes .entry))) f × (now (bytes .exit) ≡ now (bytes .entry))) ⌝ }
+    ensures { λ r. ⌜ Cases r (λ x. Restored (G·Game .model (now (g .entry))) (namesOf (now (legend .entry))) (now (bytes .entry)) (now (bytes .exit)) (tableOf (x .0 .states) (x .0 .agents) (x .0 .rows)) (namesOf (x .1))) (λ f. Refused (G·Game .model (now (g .entry))) (namesOf (now (legend .entry))) (length (now (bytes .entry))) f × (now (bytes .exit) ≡ now (bytes .entry))) ⌝ }
 {
     match write(g, legend, bytes) {
         Ok(_) => {
