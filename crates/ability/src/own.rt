@@ -4,7 +4,7 @@ use model::game::Game;
 use model::game::Marked;
 use sets::coalition::Coalition;
 ghost use mathlib.Core.Path.{_≡_};
-ghost use Prim.Native.Nat.{ℕ, _<_};
+ghost use Prim.Native.Nat.{_<_};
 ghost use Rattle.std.specs.Numbers.{Checked};
 ghost use Rattle.sets.specs.Sets.{bit, who};
 ghost use Rattle.model.specs.Model.{Exists, Numbering, joint, ownOf, owns};

@@ -1,7 +1,7 @@
 -- How long a row of parts is.
-use mathlib.Core.Path.{_≡_, refl, sym, ap, _∙_}
+use mathlib.Core.Path.{_≡_, refl}
 use mathlib.Core.Logic.{inl, inr}
-use mathlib.Core.List.{List, [], _∷_, _++_}
+use mathlib.Core.List.{List, _++_}
 use Prim.Native.Nat.{ℕ, zero, suc, _+_, _*_, _<_, _≤_}
 use native.Mathlib.Numerals.{add-one}
 use native.Mathlib.Omega.{arith}
@@ -29,9 +29,6 @@ upto-grows f m (suc n) h =
     ]
 
 module _ (M : Model) where
-  pub counts-length : (s : ℕ) → length (countsAt M s) ≡ 6
-  counts-length s = refl
-
   pub outs-length : (s n : ℕ) → length (upto (outBytes M s) n) ≡ n * 2
   outs-length s n = length-upto (outBytes M s) 2 n (λ i l. refl)
 

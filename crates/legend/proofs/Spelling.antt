@@ -1,14 +1,14 @@
 -- Where the word of a name ends.
 use mathlib.Core.Path.{_≡_, refl, sym, ap, subst, _∙_}
-use mathlib.Core.Logic.{_⊎_, inl, inr}
-use mathlib.Core.List.{List, _++_}
+use mathlib.Core.Logic.{inl, inr}
+use mathlib.Core.List.{List}
 use Prim.Native.Nat.{ℕ, _-_, _<_, _≤_}
 use native.Mathlib.Omega.{arith}
 use lib.ListN.{length, getD, take, replicate, length-append, length-replicate}
 use lib.Seq.{length-take-le, getD-take}
 use Rattle.std.proofs.shelf.Lists.{getD-default, getD-append-left, getD-append-right, getD-replicate, same-lists}
 use Rattle.std.proofs.shelf.Tests.{cases-lt}
-use Rattle.legend.specs.Names.{Letter, LetterOrDigit, Word, Name, padded, reserved}
+use Rattle.legend.specs.Names.{Letter, LetterOrDigit, Name, padded, reserved}
 
 -- equal bytes at each place
 pub same-bytes : (xs ys : List ℕ) (n : ℕ) → length xs ≡ n → length ys ≡ n → ((k : ℕ) → k < n → getD xs k 0 ≡ getD ys k 0) → xs ≡ ys

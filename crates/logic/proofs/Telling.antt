@@ -4,7 +4,7 @@ use Prim.Native.Nat.{ℕ, _<_}
 use lib.Dec.{T}
 use Rattle.sets.specs.Sets.{Set}
 use Rattle.model.specs.Model.{Model}
-use Rattle.logic.specs.Logic.{Formula, Holds, Closed, until}
+use Rattle.logic.specs.Logic.{Formula, Closed, until}
 use Rattle.sets.specs.Sets.{member}
 use Rattle.logic.specs.Questions.{Tells}
 use Rattle.sets.specs.declared.state_set.StateSet.{StateSet}

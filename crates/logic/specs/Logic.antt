@@ -6,7 +6,7 @@ use Prim.Native.Nat.{ℕ, _^_, _<_}
 use lib.Dec.{T, eqb}
 use lib.ListN.{length}
 use Rattle.sets.specs.Sets.{Set, bit}
-use Rattle.model.specs.Model.{Model, Can, Exists}
+use Rattle.model.specs.Model.{Model, Can}
 
 -- the state formulas
 pub data Formula : Type 0 where

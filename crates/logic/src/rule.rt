@@ -3,7 +3,6 @@ use crate::line::Line;
 use crate::line::QuestionFault;
 ghost use mathlib.Core.Path.{_≡_};
 ghost use mathlib.Core.Logic.{_↔_};
-ghost use Prim.Native.Nat.{ℕ};
 ghost use lib.Dec.{T};
 ghost use Rattle.std.specs.Results.{Cases};
 ghost use Rattle.logic.specs.Logic.{Rule};

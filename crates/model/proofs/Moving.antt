@@ -1,30 +1,18 @@
 -- The counts and numbers of joint moves and own choices.
-use mathlib.Core.Path.{_≡_, refl}
+use mathlib.Core.Path.{_≡_}
 use mathlib.Core.Bool.{Bool, true, false, cond}
-use Prim.Native.Nat.{ℕ, zero, suc, _+_, _-_, _*_, _/_, _%_, _<_, _≤_}
-use native.Mathlib.Nat.{div-div-eq-div-mul, add-zero, add-suc}
+use Prim.Native.Nat.{ℕ, zero, suc, _+_, _-_, _*_, _<_, _≤_}
+use native.Mathlib.Nat.{add-zero, add-suc}
 use native.Mathlib.Numerals.{add-one}
 use native.Mathlib.Omega.{arith}
 use Rattle.std.proofs.shelf.Bits.{mul-le, mul-add-lt, mod-below}
 use Rattle.sets.specs.Sets.{Set}
-use Rattle.model.specs.Model.{Model, Ranged, moves, everyone, joint, choice, number, own, most}
+use Rattle.model.specs.Model.{Model, Ranged, moves, everyone, choice, number, own, most}
 
 -- one agent more, who is in A or isn't
 module _ (A : Set) (d : ℕ → ℕ) (a : ℕ) where
   pub moves-with : A a ≡ true → moves A d (a + 1) ≡ moves A d a * d a
   moves-with h = rw (add-one, h)
-
-  pub moves-without : A a ≡ false → moves A d (a + 1) ≡ moves A d a
-  moves-without h = rw (add-one, h) (omega arith)
-
-  pub own-with : (j : ℕ) → A a ≡ true → own A d (a + 1) j ≡ own A d a j + j / moves everyone d a % d a * moves A d a
-  own-with j h = rw (add-one, h)
-
-  pub own-without : (j : ℕ) → A a ≡ false → own A d (a + 1) j ≡ own A d a j
-  own-without j h = rw (add-one, h) (omega arith)
-
-pub rest-more : (d : ℕ → ℕ) (a j : ℕ) → j / moves everyone d (a + 1) ≡ j / moves everyone d a / d a
-rest-more d a j = rw (add-one, div-div-eq-div-mul)
 
 -- a factor that is kept or left out
 kept-le : (b : Bool) (m n d : ℕ) → m ≤ n → 1 ≤ d → m * cond b d 1 ≤ n * d
@@ -71,6 +59,3 @@ module _ (M : Model) (r : Ranged M) (s : ℕ) (h : s < M .n) where
       let x = moves-le (M .d s) (M .k) p A a l in
       let y = moves-grow (M .d s) (M .k) p a (M .k - a) (omega arith) in
       omega (arith, rw e at y, r .product s h)
-
-  pub own-below : (A : Set) (j a : ℕ) → a ≤ M .k → own A (M .d s) a j < moves A (M .d s) a
-  own-below A j a l = own-lt (M .d s) (M .k) (λ b q. r .choices s b h q .0) A j a l

@@ -10,7 +10,7 @@ use lib.Dec.{T}
 use Rattle.std.proofs.shelf.Bits.{mod-below, div-add-mod', div-mul-add}
 use Rattle.std.proofs.shelf.Tests.{cases-eq}
 use Rattle.sets.specs.Sets.{Set, bit}
-use Rattle.model.specs.Model.{Model, Ranged, Numbering, moves, everyone, joint, choice, number, own, ownOf, owns}
+use Rattle.model.specs.Model.{Model, Ranged, Numbering, moves, everyone, choice, number, own, ownOf, owns}
 use Rattle.model.proofs.Moving.{moves-pos, number-lt, own-lt}
 
 -- a further agent's factor, kept or left out

@@ -1,12 +1,12 @@
 -- Rows that copy states in range make a table of the same model.
-use mathlib.Core.Path.{_≡_, refl, sym, ap, _∙_, subst}
+use mathlib.Core.Path.{_≡_, refl, sym, ap, _∙_}
 use mathlib.Core.List.{List, _∷_}
 use Prim.Native.Nat.{ℕ, _<_, _≤_}
 use native.Mathlib.Omega.{arith}
 use lib.Dec.{lit<}
 use lib.ListN.{getD, replicate}
 use Rattle.sets.specs.Sets.{limit}
-use Rattle.model.specs.Model.{Model, Ranged, Same, everyone, moves}
+use Rattle.model.specs.Model.{Ranged, Same, everyone, moves}
 use Rattle.model.specs.Kinds.{StateRanged, Tabled, blank, countsAt, nowhere, tableOf}
 use Rattle.model.specs.declared.state.State.{State}
 use Rattle.model.proofs.Same.{same-ranged}

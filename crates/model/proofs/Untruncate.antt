@@ -5,7 +5,6 @@ use mathlib.Core.List.{List}
 use Prim.Native.Nat.{ℕ}
 use native.Mathlib.Bridge.{le-prop}
 use native.Mathlib.Nat.{ℕ-set}
-use Rattle.model.specs.Model.{Ranged}
 use Rattle.model.specs.Kinds.{Tabled}
 use Rattle.model.specs.declared.state.State.{State}
 

@@ -1,6 +1,6 @@
 //! Marked sets of states, and games over them: what every kind of model answers.
 ghost use mathlib.Core.Path.{_≡_};
-ghost use Prim.Native.Nat.{ℕ, _<_};
+ghost use Prim.Native.Nat.{_<_};
 ghost use Rattle.std.specs.Numbers.{Checked};
 ghost use Rattle.model.specs.Model.{Marks, MarksRanged, Model, Ranged, joint, marksOf};
 

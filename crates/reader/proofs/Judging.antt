@@ -1,16 +1,15 @@
 -- From what was read to the one answer.
 use mathlib.Core.Path.{_≡_, refl, sym, ap, ap₂, subst, _∙_}
 use mathlib.Core.Logic.{inl, inr}
-use mathlib.Core.Bool.{cond}
 use mathlib.Core.List.{List, [], _∷_, _++_}
 use Prim.Native.Nat.{ℕ, zero, suc, _+_, _^_, _<_, _≤_}
 use native.Mathlib.Omega.{arith}
 use lib.Dec.{ltb}
 use lib.ListN.{length}
 use Rattle.std.proofs.shelf.Tests.{cases-lt, cond-true, cond-false, lt-ltb, le-ltb}
-use Rattle.model.specs.Model.{Model, Same, everyone, joint, marksOf}
+use Rattle.model.specs.Model.{Model, Same, everyone, joint}
 use Rattle.model.proofs.Same.{moves-at, same-ranged, state-in}
-use Rattle.file.specs.File.{begin, finish, state, encode, upto, countAt, countsAt, nameBytes, outBytes, stateBytes, outcomes, fileOf}
+use Rattle.file.specs.File.{begin, finish, state, encode, upto, countAt, nameBytes, outBytes, stateBytes, outcomes, fileOf}
 use Rattle.file.specs.Reading.{Begins, Fileable, Refused}
 use Rattle.file.proofs.Once.{refused-once}
 use Rattle.file.proofs.Filing.{begins-same, no-file}

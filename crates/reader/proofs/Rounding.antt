@@ -6,7 +6,7 @@ use mathlib.Core.List.{List, _++_, List·isSet}
 use Prim.Native.Nat.{ℕ}
 use native.Mathlib.Nat.{ℕ-set}
 use native.Mathlib.Omega.{arith}
-use lib.ListN.{length, take, drop}
+use lib.ListN.{take, drop}
 use Rattle.std.proofs.shelf.Lists.{take-all, take-append-drop, take-append-le}
 use Rattle.model.specs.Model.{Model, Ranged, Same}
 use Rattle.legend.specs.Names.{Lawful}

@@ -9,7 +9,7 @@ use lib.ListN.{length, set}
 use lib.Seq.{getD-set-same, getD-set-other}
 use Rattle.model.specs.Kinds.{nowhere}
 use Rattle.model.specs.declared.state.State.{State}
-use Rattle.file.specs.File.{Command, upto}
+use Rattle.file.specs.File.{upto}
 use Rattle.reader.specs.Bodies.{rowCommands}
 use Rattle.reader.specs.Heads.{Naming, bodySeen, stateCommands}
 use Rattle.reader.proofs.Naming.{upto-same}

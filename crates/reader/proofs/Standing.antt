@@ -1,12 +1,12 @@
 -- The commands that stand at a place, by their bytes.
-use mathlib.Core.Path.{_≡_, refl, sym, ap, subst, _∙_}
+use mathlib.Core.Path.{_≡_, sym, ap, _∙_}
 use mathlib.Core.List.{List, [], _∷_, _++_}
-use Prim.Native.Nat.{ℕ, _+_, _*_, _/_, _%_, _<_, _≤_}
+use Prim.Native.Nat.{ℕ, _+_, _*_, _/_, _%_, _<_}
 use native.Mathlib.Nat.{add-zero}
 use native.Mathlib.Omega.{arith}
-use lib.ListN.{length, getD, drop}
+use lib.ListN.{getD, drop}
 use Rattle.std.proofs.shelf.Bits.{div-mul-add, mod-mul-add}
-use Rattle.file.specs.File.{Command, name, state, out, finish, encode}
+use Rattle.file.specs.File.{name, state, out, finish, encode}
 use Rattle.reader.specs.Sofar.{Stands, bytesAt}
 use Rattle.reader.proofs.Going.{row}
 

@@ -3,23 +3,22 @@ use mathlib.Core.Path.{_≡_, refl, sym, ap, ap₂, subst, _∙_}
 use mathlib.Core.Logic.{inl, inr}
 use mathlib.Core.Bool.{cond}
 use mathlib.Core.List.{List, [], _∷_, _++_, append-assoc}
-use Prim.Native.Nat.{ℕ, _+_, _^_, _<_, _≤_}
+use Prim.Native.Nat.{ℕ, _+_, _^_, _<_}
 use native.Mathlib.Omega.{arith}
 use lib.Dec.{ltb}
 use lib.ListN.{length, getD, drop}
 use lib.Pow.{pow-mono}
 use Rattle.std.specs.Joined.{joined}
 use Rattle.std.proofs.shelf.Tests.{cases-lt, cond-true, cond-false, lt-ltb, le-ltb}
-use Rattle.sets.specs.Sets.{limit}
 use Rattle.model.specs.Model.{Model, Ranged, everyone, moves}
 use Rattle.model.specs.Kinds as kinds
-use Rattle.model.specs.Kinds.{StateRanged, nowhere, tableOf}
+use Rattle.model.specs.Kinds.{nowhere, tableOf}
 use Rattle.model.specs.declared.state.State.{State}
 use Rattle.model.proofs.Tabling.{states-ranged}
 use Rattle.legend.specs.Names.{Lawful}
 use Rattle.legend.proofs.Spelling.{same-bytes}
 use Rattle.file.specs.File.{Command, begin, finish, state, encode, upto, countsAt, fileOf, outcomes}
-use Rattle.file.specs.Reading.{Counts, Fileable, Keeps, Leads, none, more, Seen, after, nothing}
+use Rattle.file.specs.Reading.{Counts, Fileable, Keeps, Leads, none, more, Seen, nothing}
 use Rattle.file.proofs.Once.{leads-append}
 use Rattle.file.proofs.Filing.{nameAt, stateAt, commandsOf, file-commands, getD-upto, naming, between, names-lead, states-lead, all-named}
 use Rattle.reader.specs.Bodies.{rowCommands}

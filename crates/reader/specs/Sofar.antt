@@ -6,7 +6,7 @@ use Prim.Native.Nat.{ℕ, _+_, _<_, _≤_}
 use lib.ListN.{length, getD, drop}
 use Rattle.std.specs.Joined.{joined}
 use Rattle.file.specs.File.{Command, name, encode, upto}
-use Rattle.file.specs.Reading.{Seen, Leads, Fails, due, nothing, size}
+use Rattle.file.specs.Reading.{Seen, Leads, nothing}
 
 -- the commands cs fill the input up to a place
 pub record Sofar (input : List ℕ) (at : ℕ) (cs : List Command) (s : Seen) : Type 0 where

@@ -2,7 +2,7 @@
 use crate::fault::FileFault;
 use crate::fault::FileRule;
 ghost use mathlib.Core.Path.{_≡_};
-ghost use Prim.Native.Nat.{ℕ, _<_, _≤_};
+ghost use Prim.Native.Nat.{_<_, _≤_};
 ghost use lib.ListN.{length, getD, drop};
 ghost use Rattle.std.specs.Results.{Cases};
 ghost use Rattle.file.specs.Reading.{Seen, Fails, due, size};

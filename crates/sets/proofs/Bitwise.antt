@@ -1,14 +1,14 @@
 -- The bits of what the operators on numbers give.
 use mathlib.Core.Path.{_≡_, refl, sym, ap, subst, _∙_}
 use mathlib.Core.Logic.{_⊎_, inl, inr, _↔_}
-use mathlib.Core.Bool.{Bool, true, false, cond, not, _&&_, _||_}
-use Prim.Native.Nat.{ℕ, zero, suc, _+_, _-_, _*_, _/_, _%_, _^_, _<_, _≤_}
+use mathlib.Core.Bool.{Bool, true, false, not, _&&_, _||_}
+use Prim.Native.Nat.{ℕ, zero, suc, _-_, _/_, _%_, _^_, _<_, _≤_}
 use native.Mathlib.Nat.{pow-suc, sub-zero, div-eq-of-lt}
 use native.Mathlib.Omega.{arith}
-use lib.Dec.{T, eqb, ltb, ltb→lt, lt→ltb, eqb→eq, eqb-refl, eqb·zero-suc, eqb·suc-zero, eqb·suc-suc, leb·suc-suc, leb·suc-zero, leb·zero}
+use lib.Dec.{T, eqb, ltb, ltb→lt, lt→ltb, eqb→eq, eqb-refl, eqb·zero-suc, eqb·suc-zero, eqb·suc-suc, leb·suc-suc, leb·suc-zero}
 use lib.Bits.{bitAnd, bitOr, and-step, or-step}
 use lib.Arith.{bin-ind}
-use Rattle.std.proofs.shelf.Bits.{shr-split, mod-below, and-mask, and-shr, or-shr, shr-shr, pow-pos, pow-below}
+use Rattle.std.proofs.shelf.Bits.{shr-split, mod-below, and-mask, and-shr, or-shr, shr-shr, pow-pos}
 use Rattle.std.proofs.shelf.Ways.{tells}
 use Rattle.std.proofs.shelf.Tests.{eqb-false, ne-eqb, cases-lt}
 use Rattle.sets.specs.Sets.{bit}

@@ -1,7 +1,7 @@
 //! Coalitions of agents.
 ghost use mathlib.Core.Path.{_≡_};
 ghost use mathlib.Core.Logic.{_↔_};
-ghost use Prim.Native.Nat.{ℕ, _^_, _<_};
+ghost use Prim.Native.Nat.{_^_, _<_};
 ghost use lib.Dec.{T};
 ghost use Rattle.sets.specs.Sets.{bit, who};
 

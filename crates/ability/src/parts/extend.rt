@@ -1,7 +1,6 @@
 //! One agent more.
 use super::Parts;
 ghost use mathlib.Core.Path.{_≡_};
-ghost use mathlib.Core.Bool.{cond};
 ghost use Prim.Native.Nat.{ℕ, _+_, _*_, _/_, _%_, _<_, _≤_};
 ghost use lib.ListN.{getD};
 ghost use Rattle.ability.specs.Ability.{Extends, Small};

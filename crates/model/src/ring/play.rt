@@ -4,7 +4,7 @@ use super::Ring;
 use crate::game::Game;
 use crate::game::Marked;
 ghost use mathlib.Core.Path.{_≡_};
-ghost use Prim.Native.Nat.{ℕ, _<_, _≤_};
+ghost use Prim.Native.Nat.{_<_, _≤_};
 ghost use Rattle.std.specs.Results.{Cases};
 ghost use Rattle.sets.specs.Sets.{limit};
 ghost use Rattle.model.specs.Model.{marksOf};

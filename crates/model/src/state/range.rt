@@ -1,6 +1,5 @@
 //! Whether a state that is written out keeps the ranges.
 use super::State;
-ghost use Prim.Native.Nat.{ℕ};
 ghost use Rattle.std.specs.Numbers.{Checked};
 ghost use Rattle.model.specs.Model.{everyone, moves};
 ghost use Rattle.model.specs.Kinds.{countsAt, CountsRanged, StateRanged};

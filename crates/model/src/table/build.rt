@@ -1,7 +1,6 @@
 //! Tables are made here: a blank one, and one of states that keep the ranges.
 use super::Table;
 use crate::state::State;
-ghost use mathlib.Core.Path.{_≡_};
 ghost use lib.ListN.{length};
 ghost use Rattle.std.specs.Options.{Cases};
 ghost use Rattle.model.specs.Model.{Ranged, Same};
@@ -33,12 +32,7 @@ impl Table {
             return None;
         }
         let n = states.len() as u8;
-        let state = State {
-            marks: 0,
-            counts: [1; 6],
-            outcomes: [0; 64],
-        };
-        let mut rows = [state; 64];
+        let mut rows = [states[0]; 64];
         let mut joints = [1; 64];
         for s in 0..n {
             let state = states[s as usize];

@@ -1,6 +1,5 @@
 use mathlib.Core.Path.{sym}
 use native.Mathlib.Omega.{arith}
-use lib.ListN.{length}
 use lib.Seq.{length-take-le}
 use Rattle.std.proofs.shelf.Lists.{take-more, take-all}
 use Rattle.file.proofs.Putting.{puts-none, puts-more, puts-room, puts-same}

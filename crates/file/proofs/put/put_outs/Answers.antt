@@ -1,9 +1,9 @@
 use mathlib.Core.Path.{refl, sym, ap}
-use mathlib.Core.List.{List, [], _∷_}
+use mathlib.Core.List.{[], _∷_}
 use Prim.Native.Nat.{ℕ, _<_}
 use native.Mathlib.Omega.{arith}
-use Rattle.file.specs.File.{outBytes, upto}
-use Rattle.file.proofs.Putting.{puts-none, puts-more, puts-room, puts-same}
+use Rattle.file.specs.File.{outBytes}
+use Rattle.file.proofs.Putting.{puts-more, puts-room, puts-same}
 use Rattle.file.proofs.Spanning.{upto-more, length-upto}
 use Rattle.file.proofs.put.put_outs.Given as given
 use Rattle.file.proofs.put.put_outs.Needs as need

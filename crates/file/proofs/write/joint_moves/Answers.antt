@@ -1,4 +1,3 @@
-use Prim.Native.Nat.{_<_}
 use native.Mathlib.Omega.{arith}
 use Rattle.file.proofs.write.joint_moves.Given as given
 use Rattle.file.proofs.write.joint_moves.Needs as need

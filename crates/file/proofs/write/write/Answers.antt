@@ -1,6 +1,4 @@
 use borrow.Author.Needs.{needs}
-use mathlib.Core.Path.{refl}
-use native.Mathlib.Omega.{arith}
 use Rattle.file.proofs.Putting.{written}
 use Rattle.file.proofs.write.write.Needs as need
 

@@ -1,9 +1,8 @@
-use mathlib.Core.Path.{_≡_, refl, sym, subst, _∙_}
+use mathlib.Core.Path.{refl, sym, subst}
 use mathlib.Core.Logic.{∥∥₁-map}
-use mathlib.Core.List.{List, [], _∷_, _++_}
-use Prim.Native.Nat.{ℕ, _+_, _<_}
+use Prim.Native.Nat.{_<_}
 use native.Mathlib.Omega.{arith}
-use lib.ListN.{length, take, set}
+use lib.ListN.{length}
 use lib.Seq.{length-take-le}
 use Rattle.std.proofs.shelf.Lists.{take-more-set}
 use Rattle.legend.specs.Names.{Lawful}

@@ -1,6 +1,5 @@
 use mathlib.Core.Path.{sym, _∙_}
 use native.Mathlib.Omega.{arith}
-use lib.ListN.{length}
 use lib.Seq.{getD-take, length-take-le}
 use Rattle.list.proofs.List.at.Needs as need
 

@@ -1,5 +1,3 @@
-use Prim.Native.Nat.{_<_}
-use lib.ListN.{length}
 use Rattle.sets.specs.Sets.{who}
 use Rattle.logic.specs.Questions.{Tells}
 use Rattle.logic.proofs.Telling.{until-tells}

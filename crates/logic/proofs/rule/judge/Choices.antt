@@ -1,4 +1,3 @@
-use Prim.Native.Nat.{ℕ}
 use lib.ListN.{take}
 use Rattle.logic.specs.Logic.{Ruled}
 use Rattle.logic.specs.Questions.{question}

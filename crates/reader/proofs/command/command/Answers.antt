@@ -1,5 +1,4 @@
 use mathlib.Core.Path.{refl, sym, _∙_}
-use native.Mathlib.Omega.{arith}
 use Rattle.reader.proofs.Exits.{at-exit, none-there, other-there, short-there}
 use Rattle.reader.proofs.command.command.Needs as need
 

@@ -6,9 +6,9 @@ use native.Mathlib.Omega.{arith}
 use lib.ListN.{length, getD, drop}
 use Rattle.legend.specs.Names.{Lawful}
 use Rattle.legend.specs.Legends.{namesOf}
-use Rattle.file.specs.File.{Command, name, encode}
-use Rattle.file.specs.Reading.{Fails, Refused}
-use Rattle.reader.specs.Sofar.{Sofar, bytesAt}
+use Rattle.file.specs.File.{name, encode}
+use Rattle.file.specs.Reading.{Fails}
+use Rattle.reader.specs.Sofar.{bytesAt}
 use Rattle.reader.proofs.Going.{sofar-more, sofar-refused}
 use Rattle.reader.proofs.Standing.{stands-name}
 use Rattle.reader.proofs.names.read_name.Needs as need

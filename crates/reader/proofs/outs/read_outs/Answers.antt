@@ -1,11 +1,10 @@
-use mathlib.Core.Path.{_≡_, refl, sym, ap, subst, _∙_}
+use mathlib.Core.Path.{_≡_, refl, ap, subst, _∙_}
 use mathlib.Core.List.{List, [], _∷_, _++_, append-assoc}
 use Prim.Native.Nat.{ℕ, _+_, _*_, _<_, _≤_}
 use native.Mathlib.Omega.{arith}
 use lib.ListN.{length, length-set, getD, set}
 use Rattle.model.proofs.Filling.{fill-more}
 use Rattle.file.specs.File.{Command, out, upto}
-use Rattle.file.specs.Reading.{Seen}
 use Rattle.reader.specs.Heads.{Filled, outCommand, outsSeen}
 use Rattle.reader.specs.Sofar.{Sofar}
 use Rattle.reader.proofs.Exits.{at-exit, at-exit-made}

@@ -1,5 +1,5 @@
 use native.Mathlib.Omega.{arith}
-use Rattle.std.proofs.shelf.Bits.{mul-le, mod-below}
+use Rattle.std.proofs.shelf.Bits.{mul-le}
 use Rattle.ability.proofs.Repeating.{repeat-fits}
 use Rattle.ability.proofs.parts.Parts.extend.Needs as need
 

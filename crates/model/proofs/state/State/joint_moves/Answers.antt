@@ -1,6 +1,5 @@
-use Prim.Native.Nat.{_+_, _*_, _≤_}
+use Prim.Native.Nat.{_*_, _≤_}
 use native.Mathlib.Omega.{arith}
-use lib.ListN.{getD}
 use borrow.Author.Count.{below-more}
 use Rattle.std.proofs.shelf.Bits.{mul-le}
 use Rattle.model.specs.Kinds.{countsAt}

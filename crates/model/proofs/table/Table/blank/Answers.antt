@@ -1,5 +1,3 @@
-use mathlib.Core.Path.{refl, sym, subst, ap}
-use native.Mathlib.Omega.{arith}
 use lib.ListN.{replicate}
 use Rattle.model.proofs.Tabling.{blank-same, blank-tabled, first}
 use Rattle.model.proofs.table.Table.blank.Needs as need

@@ -2,9 +2,8 @@ use mathlib.Core.Path.{_≡_, refl, _∙_}
 use Prim.Native.Nat.{ℕ, _<_}
 use native.Mathlib.Omega.{arith}
 use lib.ListN.{length, length-set, getD}
-use Rattle.model.specs.Model.{Ranged, everyone, moves}
-use Rattle.model.specs.Kinds.{StateRanged, countsAt, nowhere, tableOf}
-use Rattle.model.specs.declared.state.State.{State}
+use Rattle.model.specs.Model.{everyone, moves}
+use Rattle.model.specs.Kinds.{StateRanged, countsAt, nowhere}
 use Rattle.model.proofs.Filling.{fill-more}
 use Rattle.model.proofs.Tabling.{states-ranged, rows-same, rows-tabled}
 use Rattle.model.proofs.table.Table.from_states.Needs as need

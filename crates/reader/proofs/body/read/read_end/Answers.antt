@@ -1,9 +1,8 @@
-use mathlib.Core.Path.{_≡_, refl, sym, ap, _∙_}
-use mathlib.Core.List.{_++_}
-use Prim.Native.Nat.{ℕ, _+_, _*_, _<_}
+use mathlib.Core.Path.{refl, sym, _∙_}
+use Prim.Native.Nat.{_+_, _*_}
 use native.Mathlib.Omega.{arith}
-use lib.ListN.{getD, drop}
-use Rattle.file.specs.File.{finish, encode}
+use lib.ListN.{drop}
+use Rattle.file.specs.File.{finish}
 use Rattle.file.specs.Reading.{Fails}
 use Rattle.file.proofs.Filing.{due-end}
 use Rattle.reader.proofs.Going.{sofar-more, sofar-refused}

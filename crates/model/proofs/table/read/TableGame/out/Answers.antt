@@ -1,4 +1,4 @@
-use mathlib.Core.Path.{_≡_, refl}
+use mathlib.Core.Path.{refl}
 use native.Mathlib.Omega.{arith}
 use Rattle.model.proofs.Untruncate.{tabled-out}
 use Rattle.model.proofs.table.read.TableGame.out.Needs as need
