@@ -54,7 +54,8 @@ impl Legend {
         }
         None
     }
-    /// The mark that a word names, or none.
+
+    /// The mark whose name is this word with spaces to its right, or none.
     pub fn find(&self, word: &[u8]) -> Option<u8>
         ensures { λ r. ⌜ Cases r ((i : ℕ) → i < length (namesOf (now (self .entry))) → getD (namesOf (now (self .entry))) i [] ≡ padded (now (word .entry)) → ⊥) (λ i. (i < length (namesOf (now (self .entry)))) × (getD (namesOf (now (self .entry))) i [] ≡ padded (now (word .entry)))) ⌝ }
     {

@@ -6,7 +6,7 @@ use Prim.Native.Nat.{ℕ, zero, suc, _+_, _*_, _/_, _%_, _^_, _<_, _≤_}
 use lib.Dec.{T}
 use Rattle.sets.specs.Sets.{Set, bit, limit}
 
--- a marked set: states 0 to n - 1, each with 16 marks, the bits of a number
+-- a marked set: states 0 to n - 1, each with some of 16 marks, the bits of a number
 pub record Marks : Type 0 where
   pub n : ℕ
   pub marks : ℕ → ℕ

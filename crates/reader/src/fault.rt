@@ -15,7 +15,7 @@ pub enum FileRule {
     Name,
     /// STATE has a mark that was not declared.
     Mark,
-    /// A count or the product of the counts is out of range.
+    /// A count or the product of the counts is out of range, or a count past the agents isn't 0.
     Count,
     /// OUT is not a state.
     Out,

@@ -1,4 +1,5 @@
 //! Model files: which are read, which are refused and where, and what is written.
+use crate::models::lone;
 use file::write::write;
 use legend::Legend;
 use model::game::Game;
@@ -6,23 +7,18 @@ use model::game::Marked;
 use model::ring::Ring;
 use model::ring::RingGame;
 use model::ring::RingMarked;
-use model::state::State;
 use model::table::Table;
 use model::table::TableGame;
 use model::table::TableMarked;
+use reader::CopyFault;
+use reader::copy;
 use reader::read;
+use reader::restore;
 use std::test::*;
 
-/// One state with these counts and some marks, which stays where it is.
-fn lone(agents: u8, counts: [u8; 6]) -> Result<Table, Fail> {
-    match Table::from_states(
-        agents,
-        &[State {
-            marks: 5,
-            counts,
-            outcomes: [0; 64],
-        }],
-    ) {
+/// The table of one state with these counts.
+fn table(agents: u8, counts: [u8; 6]) -> Result<Table, Fail> {
+    match lone(agents, counts) {
         Some(table) => Ok(table),
         None => Err(Fail::new("no such table")),
     }
@@ -41,7 +37,7 @@ fn legend(count: u8) -> Result<Legend, Fail> {
 
 /// The file is refused with this number at this place; the table and the legend stay.
 fn refused(input: &[u8], number: u8, place: usize) -> Result<(), Fail> {
-    let mut table = lone(3, [2, 1, 2, 0, 0, 0])?;
+    let mut table = table(3, [2, 1, 2, 0, 0, 0])?;
     let mut names = legend(1)?;
     match read(input, &mut table, &mut names) {
         Ok(_) => return Err(Fail::new("the file is accepted")),
@@ -59,7 +55,7 @@ fn refused(input: &[u8], number: u8, place: usize) -> Result<(), Fail> {
 
 /// The file of one state and one agent is read, with so many names; so many bytes, each 255, are the rest.
 fn accepted(input: &[u8], count: u8, after: usize) -> Result<Legend, Fail> {
-    let mut table = lone(3, [2, 1, 2, 0, 0, 0])?;
+    let mut table = table(3, [2, 1, 2, 0, 0, 0])?;
     let mut names = legend(3)?;
     match read(input, &mut table, &mut names) {
         Ok(rest) => {
@@ -186,7 +182,7 @@ fn names() -> Result<(), Fail> {
 #[test]
 fn widest() -> Result<(), Fail> {
     let mut bytes = [9; 256];
-    let made = lone(2, [8, 8, 0, 0, 0, 0])?;
+    let made = table(2, [8, 8, 0, 0, 0, 0])?;
     match write(&made, &legend(3)?, &mut bytes) {
         Ok(len) => check_eq(len, 174)?,
         Err(_) => return Err(Fail::new("the table is not written")),
@@ -255,4 +251,49 @@ fn round() -> Result<(), Fail> {
     }
     check(names.count() == 1)?;
     check_eq(names.find(b"home"), Some(0))
+}
+
+#[test]
+fn copies() -> Result<(), Fail> {
+    let input = shortest();
+    let mut bytes = [9; 20];
+    match copy(&input, &mut bytes[0..17]) {
+        Err(CopyFault::Write(fault)) => check_eq(fault.number(), 36)?,
+        _ => return Err(Fail::new("there is no room for the file")),
+    }
+    match copy(&input[0..17], &mut bytes) {
+        Err(CopyFault::Read(fault)) => check(fault.number() == 1 && fault.place == 15)?,
+        _ => return Err(Fail::new("the file isn't whole")),
+    }
+    for byte in bytes {
+        check(byte == 9)?;
+    }
+    match copy(&input, &mut bytes) {
+        Ok(len) => check_eq(len, 18)?,
+        Err(_) => return Err(Fail::new("the file isn't copied")),
+    }
+    for i in 0..18usize {
+        check(bytes[i] == input[i])?;
+    }
+    check(bytes[18] == 9 && bytes[19] == 9)
+}
+
+#[test]
+fn restores() -> Result<(), Fail> {
+    let made = table(2, [2, 3, 0, 0, 0, 0])?;
+    let mut bytes = [9; 64];
+    match restore(&made, &legend(3)?, &mut bytes[0..57]) {
+        Err(fault) => check_eq(fault.number(), 36)?,
+        Ok(_) => return Err(Fail::new("there is no room for the file")),
+    }
+    check(bytes[0] == 9)?;
+    match restore(&made, &legend(3)?, &mut bytes) {
+        Ok(back) => {
+            check_eq(back.0.choices(0, 1), Some(3))?;
+            check_eq(back.0.marks(0), Some(5))?;
+            check_eq(back.1.find(b"b2"), Some(1))?;
+        }
+        Err(_) => return Err(Fail::new("the table isn't restored")),
+    }
+    check(bytes[0] == 1 && bytes[57] == 6 && bytes[58] == 9)
 }

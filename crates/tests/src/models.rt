@@ -46,7 +46,7 @@ fn rings() -> Result<(), Fail> {
 }
 
 /// One state with these counts for so many agents, which stays where it is.
-fn lone(agents: u8, counts: [u8; 6]) -> Option<Table> {
+pub(crate) fn lone(agents: u8, counts: [u8; 6]) -> Option<Table> {
     Table::from_states(
         agents,
         &[State {
