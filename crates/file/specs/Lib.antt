@@ -1,3 +1,4 @@
 pub mod File
+pub mod Puts
 pub mod Reading
 pub mod Writing

@@ -1,9 +1,10 @@
 //! Commands put on a list of bytes.
 ghost use Rattle.std.specs.Prelude.{◌≡◌, ◌*◌, ◌<◌, ◌≤◌, [], ◌∷◌, length};
-ghost use Rattle.list.specs.Lists.{room, Puts};
+ghost use Rattle.list.specs.Lists.{room};
 ghost use Rattle.model.specs.Model.{joint};
 ghost use Rattle.legend.specs.Legends.{names_of};
 ghost use Rattle.file.specs.File.{count_of, counts_at, name_bytes, out_bytes, state_bytes, upto};
+ghost use Rattle.file.specs.Puts.{Puts};
 
 use legend::Legend;
 use list::List;
@@ -25,9 +26,8 @@ pub(crate) fn put_all(bytes: &mut List<u8>, more: &[u8])
     requires { length more.now ≤ room bytes.old }
     ensures { Puts bytes.old bytes.new more.now }
 {
-    match bytes.extend(more) {
-        Ok(()) => {}
-        Err(_) => unreachable(),
+    for b in more {
+        put(bytes, *b);
     }
 }
 

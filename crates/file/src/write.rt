@@ -2,8 +2,9 @@
 ghost use Rattle.std.specs.Prelude.{◌≡◌, ◌^◌, ◌<◌, ◌≤◌, T, ◌↔◌, length, MatchResult};
 ghost use Rattle.model.specs.Model.{joint, marks_of};
 ghost use Rattle.legend.specs.Legends.{names_of};
-ghost use Rattle.list.specs.Lists.{room, Puts};
+ghost use Rattle.list.specs.Lists.{room};
 ghost use Rattle.file.specs.File.{Named, file_of, outcomes};
+ghost use Rattle.file.specs.Puts.{Puts};
 ghost use Rattle.file.specs.Writing.{Refused, Written, fault_number};
 
 use crate::put::{put_all, put_names, put_states};

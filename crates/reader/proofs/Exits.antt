@@ -1,10 +1,14 @@
--- How a command fails.
-use Rattle.std.proofs.Common.{◌≡◌, ℕ, ◌+◌, ◌<◌, ◌≤◌, List, ◌∷◌, length, get_or, drop, IsErrAnd, IfOk, Ok, Err, Result, sym, ap, ◌∙◌, subst, arith, length-drop}
+-- The exit of a `?`, and how a command fails.
+use Rattle.std.proofs.Common.{◌≡◌, ℕ, ◌+◌, ◌<◌, ◌≤◌, List, ◌∷◌, length, get_or, drop, IsErrAnd, IfOk, Ok, Err, Result, sym, ap, ◌∙◌, subst, arith, length-drop, MatchResult}
 use Rattle.std.proofs.lemmas.List.{drop_all, drop_more}
 use Rattle.file.specs.Reading.{Seen, Fails, due, size}
 use Rattle.reader.specs.declared.fault.FileRule.{FileRule}
 use Rattle.reader.specs.declared.fault.FileRule.TheVariants.{Short}
 use Rattle.reader.specs.Faults.{rule_number}
+
+pub at_exit : {T E : Type 0} (P : T → Type 0) (Q : E → Type 0) (r : Result T E) (d : E) → IsErrAnd r (λ y. y ≡ d) → Q d → MatchResult r P Q
+at_exit P Q (Ok x) d h q = absurd h
+at_exit P Q (Err e) d h q = subst Q (sym h) q
 
 module _ (input : List ℕ) (at code operands : ℕ) where
   pub none_there : length input ≤ at → (rule : FileRule) → rule ≡ Short → (s : Seen) → Fails s (drop at input) (rule_number rule)

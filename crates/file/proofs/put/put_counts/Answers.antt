@@ -1,6 +1,6 @@
 use Rattle.std.proofs.Common.{ℕ, List, [], ◌∷◌, sym, refl, ap, arith}
 use Rattle.file.specs.File.{count_of}
-use Rattle.list.proofs.Joins.{puts_more, puts_room, puts_same}
+use Rattle.file.proofs.Putting.{puts_more, puts_room, puts_same}
 use Rattle.file.proofs.Spanning.{upto_more, length-upto}
 use Rattle.file.proofs.put.put_counts.Goals as goal
 

@@ -1,6 +1,6 @@
 use Rattle.std.proofs.Common.{[], ◌∷◌}
 use Rattle.file.specs.File.{count_of, upto}
-use Rattle.list.specs.Lists.{Puts}
+use Rattle.file.specs.Puts.{Puts}
 use Rattle.file.proofs.put.put_counts.Given as goal
 
 abbrev pub invariant-loop-a : goal.invariant-loop-a

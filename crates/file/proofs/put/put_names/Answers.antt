@@ -2,7 +2,7 @@ use Rattle.std.proofs.Common.{◌<◌, length, sym, ap, arith}
 use Rattle.legend.specs.Legends.{names_of}
 use Rattle.legend.proofs.Holding.{names_few, name_eight}
 use Rattle.file.specs.File.{name_bytes}
-use Rattle.list.proofs.Joins.{puts_more, puts_room, puts_same}
+use Rattle.file.proofs.Putting.{puts_more, puts_room, puts_same}
 use Rattle.file.proofs.Spanning.{upto_more, names_length}
 use Rattle.file.proofs.put.put_names.Goals as goal
 

@@ -1,7 +1,7 @@
 use Rattle.std.proofs.Common.{◌-◌, ◌≤◌, length}
 use Rattle.legend.specs.Legends.{names_of}
 use Rattle.file.specs.File.{name_bytes, upto}
-use Rattle.list.specs.Lists.{Puts}
+use Rattle.file.specs.Puts.{Puts}
 use Rattle.file.proofs.put.put_names.Given as goal
 
 abbrev pub invariant-loop-name : goal.invariant-loop-name

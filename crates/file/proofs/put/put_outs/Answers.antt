@@ -1,6 +1,6 @@
 use Rattle.std.proofs.Common.{ℕ, ◌<◌, [], ◌∷◌, sym, refl, ap, arith}
 use Rattle.file.specs.File.{out_bytes}
-use Rattle.list.proofs.Joins.{puts_more, puts_room, puts_same}
+use Rattle.file.proofs.Putting.{puts_more, puts_room, puts_same}
 use Rattle.file.proofs.Spanning.{upto_more, length-upto}
 use Rattle.file.proofs.put.put_outs.Given as given
 use Rattle.file.proofs.put.put_outs.Goals as goal

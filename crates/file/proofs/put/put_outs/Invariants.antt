@@ -1,7 +1,7 @@
 use Rattle.std.proofs.Common.{◌-◌, ◌≤◌}
 use Rattle.model.specs.Model.{joint}
 use Rattle.file.specs.File.{out_bytes, upto}
-use Rattle.list.specs.Lists.{Puts}
+use Rattle.file.specs.Puts.{Puts}
 use Rattle.file.proofs.put.put_outs.Given as goal
 
 abbrev pub invariant-loop-t : goal.invariant-loop-t

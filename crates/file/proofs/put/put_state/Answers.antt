@@ -1,5 +1,5 @@
 use Rattle.std.proofs.Common.{ℕ, ◌/◌, ◌%◌, [], ◌∷◌, ap, arith}
-use Rattle.list.proofs.Joins.{puts_more, puts_room, puts_same}
+use Rattle.file.proofs.Putting.{puts_more, puts_room, puts_same}
 use Rattle.file.proofs.Spanning.{state_length}
 use Rattle.file.proofs.put.put_state.Goals as goal
 

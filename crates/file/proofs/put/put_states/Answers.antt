@@ -1,7 +1,7 @@
 use Rattle.std.proofs.Common.{◌+◌, ◌<◌, length, sym, ap, arith, length-append}
 use Rattle.model.specs.Model.{Marks}
 use Rattle.file.specs.File.{state_bytes, upto}
-use Rattle.list.proofs.Joins.{puts_more, puts_room, puts_same}
+use Rattle.file.proofs.Putting.{puts_more, puts_room, puts_same}
 use Rattle.file.proofs.Spanning.{upto_more, upto_grows}
 use Rattle.file.proofs.put.put_states.Goals as goal
 

@@ -1,7 +1,7 @@
 use Rattle.std.proofs.Common.{◌≡◌, ℕ, ◌/◌, ◌%◌, [], ◌∷◌, length, ap, ◌∙◌, arith}
 use Rattle.model.specs.Model.{Marks}
 use Rattle.legend.specs.Legends.{names_of}
-use Rattle.list.proofs.Joins.{puts_more, puts_room, puts_same}
+use Rattle.file.proofs.Putting.{puts_more, puts_room, puts_same}
 use Rattle.file.proofs.Spanning.{length-file_of, file_parts, names_length, states-length}
 use Rattle.file.proofs.write.put_file.Goals as goal
 

@@ -1,6 +1,5 @@
 use Rattle.std.proofs.Common.{sym, refl, ◌∙◌}
-use Rattle.list.proofs.Exits.{at_exit}
-use Rattle.reader.proofs.Exits.{none_there, other_there, short_there}
+use Rattle.reader.proofs.Exits.{at_exit, none_there, other_there, short_there}
 use Rattle.reader.proofs.command.command.Goals as goal
 
 pub returns-in-err-found : goal.returns-in-err-found

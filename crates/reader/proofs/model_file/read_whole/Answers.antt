@@ -4,7 +4,7 @@ use Rattle.model.specs.Model.{Ranged, Same}
 use Rattle.model.specs.Kinds.{nowhere, table_of}
 use Rattle.model.specs.declared.state.State.{State}
 use Rattle.legend.specs.Legends.{names_of}
-use Rattle.list.proofs.Exits.{at_exit}
+use Rattle.reader.proofs.Exits.{at_exit}
 use Rattle.reader.proofs.Judging.{accepts, rejects}
 use Rattle.reader.proofs.Rowing.{body_naming}
 use Rattle.reader.proofs.Whole.{whole_file, whole_ranged}

@@ -5,7 +5,7 @@ use Rattle.legend.specs.Legends.{names_of}
 use Rattle.legend.proofs.Holding.{none_lawful}
 use Rattle.file.specs.File.{Command, begin, name, upto}
 use Rattle.reader.specs.Sofar.{Sofar, bytes_at, name_command, named}
-use Rattle.list.proofs.Exits.{at_exit}
+use Rattle.reader.proofs.Exits.{at_exit}
 use Rattle.reader.proofs.Naming.{name_due, names_more}
 use Rattle.reader.proofs.names.read_names.Goals as goal
 

@@ -3,8 +3,7 @@ use Rattle.model.proofs.Filling.{fill_more}
 use Rattle.file.specs.File.{Command, out, upto}
 use Rattle.reader.specs.Heads.{Filled, out_command, outs_seen}
 use Rattle.reader.specs.Sofar.{Sofar}
-use Rattle.list.proofs.Exits.{at_exit}
-use Rattle.reader.proofs.Exits.{at_exit_made}
+use Rattle.reader.proofs.Exits.{at_exit, at_exit_made}
 use Rattle.reader.proofs.Going.{command_refused}
 use Rattle.reader.proofs.Outing.{outs_more, outs_due, outs_next, outs_none, outs_wrong}
 use Rattle.reader.proofs.outs.read_outs.Goals as goal

@@ -8,8 +8,7 @@ use Rattle.reader.specs.Heads.{HeadOf, Naming, out_command, state_commands, stat
 use Rattle.reader.specs.declared.head.Head.{Head}
 use Rattle.reader.specs.declared.header.Header.{Header}
 use Rattle.reader.specs.Sofar.{Sofar}
-use Rattle.list.proofs.Exits.{at_exit}
-use Rattle.reader.proofs.Exits.{at_exit_made}
+use Rattle.reader.proofs.Exits.{at_exit, at_exit_made}
 use Rattle.reader.proofs.outs.read_state.Goals as goal
 
 pub returns-in-err-head : goal.returns-in-err-head

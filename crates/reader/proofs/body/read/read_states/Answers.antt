@@ -5,8 +5,7 @@ use Rattle.file.specs.File.{Command, upto}
 use Rattle.reader.specs.Bodies.{row_commands}
 use Rattle.reader.specs.Heads.{Kept, body_seen}
 use Rattle.reader.specs.Sofar.{Sofar}
-use Rattle.list.proofs.Exits.{at_exit}
-use Rattle.reader.proofs.Exits.{at_exit_made}
+use Rattle.reader.proofs.Exits.{at_exit, at_exit_made}
 use Rattle.reader.proofs.Rowing.{body_naming, rows_more}
 use Rattle.reader.proofs.body.read.read_states.Goals as goal
 

@@ -2,7 +2,7 @@ use Rattle.std.proofs.Common.{◌≡◌, ℕ, List, ◌∷◌, ◌++◌, get_or,
 use Rattle.file.specs.File.{begin, encode}
 use Rattle.file.specs.Reading.{Fails}
 use Rattle.reader.specs.Sofar.{Stands}
-use Rattle.list.proofs.Exits.{at_exit}
+use Rattle.reader.proofs.Exits.{at_exit}
 use Rattle.reader.proofs.Going.{row, sofar_start, sofar_more, sofar_refused, command_refused}
 use Rattle.reader.proofs.header.begin.read_begin.Goals as goal
 
