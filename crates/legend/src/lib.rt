@@ -1,4 +1,6 @@
 //! The names of a model's marks.
+#![tactic(auto)]
+
 ghost use Rattle.std.specs.Prelude.{◌≤◌, take};
 ghost use Rattle.legend.specs.Names.{Lawful};
 

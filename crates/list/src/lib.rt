@@ -1,4 +1,6 @@
 //! One list over places handed in, for any kind of element.
+#![tactic(auto)]
+
 ghost use Rattle.std.specs.Prelude.{◌≤◌, length};
 
 mod methods;

@@ -1,4 +1,6 @@
 //! Concurrent game models: what a model answers, and the kinds of models.
+#![tactic(auto)]
+
 pub mod game;
 pub mod ring;
 pub mod state;

@@ -1,3 +1,5 @@
 //! Sets of states and coalitions of agents, each a word whose bits are its members.
+#![tactic(auto)]
+
 pub mod coalition;
 pub mod state_set;

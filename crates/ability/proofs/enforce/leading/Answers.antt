@@ -6,8 +6,8 @@ use Rattle.ability.proofs.enforce.leading.Given as given
 use Rattle.ability.proofs.enforce.leading.Goals as goal
 use Rattle.ability.proofs.enforce.leading.Goals.{then-not-contains+else-is-empty, else-not-contains}
 
-pub overflow-cast-j : goal.overflow-cast-j
-overflow-cast-j g c = omega (arith, c.in-Some.ensures.0.1, (g.met.G.Game.ranged c.args.g.now).product c.args.s c.requires.0)
+pub overflow_cast-j : goal.overflow_cast-j
+overflow_cast-j g c = omega (arith, c.in-Some.ensures.0.1, (g.met.G.Game.ranged c.args.g.now).product c.args.s c.requires.0)
 
 pub bounds-parts-j : goal.bounds-parts-j
 bounds-parts-j g c = omega (arith, c.in-Some.ensures.0.1, (g.met.G.Game.ranged c.args.g.now).product c.args.s c.requires.0)
@@ -15,8 +15,8 @@ bounds-parts-j g c = omega (arith, c.in-Some.ensures.0.1, (g.met.G.Game.ranged c
 few : (g : given.Over) (c : goal.Joined-not-contains g) → c.loop-t.j < 64
 few g c = omega (arith, c.in-Some.ensures.0.1, (g.met.G.Game.ranged c.args.g.now).product c.args.s c.requires.0)
 
-pub overflow-add-j : goal.overflow-add-j
-overflow-add-j g c = omega (arith, few g c)
+pub overflow_add-j : goal.overflow_add-j
+overflow_add-j g c = omega (arith, few g c)
 
 pub loop-t-smaller : goal.loop-t-smaller
 loop-t-smaller g c = omega (arith, few g c)

@@ -20,8 +20,8 @@ put-all-requires-in-Some c =
 few : (c : goal.After-put-all-in-Some) → c.loop-name.i < 16
 few c = omega (arith, c.in-Some.ensures.0, names_few c.args.legend.now)
 
-pub overflow-add-i : goal.overflow-add-i
-overflow-add-i c = omega (arith, few c)
+pub overflow_add-i : goal.overflow_add-i
+overflow_add-i c = omega (arith, few c)
 
 pub loop-name-smaller : goal.loop-name-smaller
 loop-name-smaller c = omega (arith, few c)

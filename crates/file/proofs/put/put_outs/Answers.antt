@@ -13,8 +13,8 @@ put-all-requires g c =
 few : (g : given.Over) (c : goal.After-put-all g) → c.loop-t.j < 64
 few g c = omega (arith, c.in-Some.ensures.0.1, (g.met.G.Game.ranged c.args.g.now).product c.args.s c.requires.0)
 
-pub overflow-add-j : goal.overflow-add-j
-overflow-add-j g c = omega (arith, few g c)
+pub overflow_add-j : goal.overflow_add-j
+overflow_add-j g c = omega (arith, few g c)
 
 pub loop-t-smaller : goal.loop-t-smaller
 loop-t-smaller g c = omega (arith, few g c)

@@ -2,5 +2,5 @@ use Rattle.std.proofs.Common.{arith}
 use Rattle.legend.proofs.Holding.{none_lawful}
 use Rattle.legend.proofs.Legend.empty.Goals as goal
 
-pub invariant-of-result : goal.invariant-of-result
-invariant-of-result c = (omega arith, (∣ none_lawful ∣₁, tt))
+pub invariant_of-result : goal.invariant_of-result
+invariant_of-result c = record { few = omega arith; lawful = ∣ none_lawful ∣₁ }

@@ -14,11 +14,11 @@ unfolding question
 loop-i-init g c = (refl, refl, λ p l. absurd (omega arith), λ s. (λ t. c.empty-answer.ensures s t, λ z. absurd z))
 
 pub slice-bounds-line-set-end : goal.slice-bounds-line-set-end
-slice-bounds-line-set-end g c = omega (arith, c.loop-i.invariant.0, c.in-ok-judge.ensures.sized.places, c.loop-i-test.true)
+slice-bounds-line-set-end g c = omega (arith, c.loop-i.invariant.0, c.in_ok-judge.ensures.sized.places, c.loop-i-test.true)
 
 pub line-set-answer-requires : goal.line-set-answer-requires
 line-set-answer-requires g c =
-    let accepted = c.in-ok-judge.ensures in
+    let accepted = c.in_ok-judge.ensures in
     let i = c.loop-i.i in
     let l = line_of (get_or c.args.lines.now i True) in
     let fits : i - 0 ≤ length c.loop-i.sets = omega (arith, c.loop-i.invariant.0, accepted.sized.places, c.loop-i-test.true) in
@@ -27,7 +27,7 @@ line-set-answer-requires g c =
     subst (λ n. Rule (g.G.Game.model c.args.g.now).k n l) many (subst (λ k. Rule k i l) c.agents.ensures here)
 
 pub bounds-sets-i : goal.bounds-sets-i
-bounds-sets-i g c = omega (arith, c.loop-i.invariant.0, c.in-ok-judge.ensures.sized.places, c.loop-i-test.true)
+bounds-sets-i g c = omega (arith, c.loop-i.invariant.0, c.in_ok-judge.ensures.sized.places, c.loop-i-test.true)
 
 pub loop-i-preserved : goal.loop-i-preserved
 loop-i-preserved g c =
@@ -36,7 +36,7 @@ loop-i-preserved g c =
     let lines = c.args.lines.now in
     let inv = c.loop-i.invariant in
     let q = question (take i lines) in
-    let within : i < length c.loop-i.sets = omega (arith, inv.0, c.in-ok-judge.ensures.sized.places, c.loop-i-test.true) in
+    let within : i < length c.loop-i.sets = omega (arith, inv.0, c.in_ok-judge.ensures.sized.places, c.loop-i-test.true) in
     let past : i < i + 1 = omega arith in
     let here = c.line-set-answer.ensures (said q) (rw sub-zero (tell_front M c.loop-i.sets i (said q) inv.2)) in (
       length-set _ _ _ ∙ inv.0,
@@ -49,7 +49,7 @@ pub returns : goal.returns
 returns g c =
     let lines = c.args.lines.now in
     let inv = c.loop-i.invariant in
-    let accepted = c.in-ok-judge.ensures in
+    let accepted = c.in_ok-judge.ensures in
     let done : c.loop-i.i ≡ length lines = omega (arith, c.loop-i-test.false, c.loop-i.auto.i-end) in
     let M = g.G.Game.model c.args.g.now in
     let whole = take_all c.loop-i.i lines c.loop-i-test.false in (

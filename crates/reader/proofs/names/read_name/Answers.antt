@@ -14,7 +14,7 @@ returns-then-input-at c = record {
   reads = λ cs s so going d is law.
       let input = c.args.input.now in
       let at = c.args.at in
-      sofar_refused so going (Fails.breaks (name (get_or input (at + 1) 0) (bytes_at input (at + 2) 8)) (drop (at + 10) input) refl (stands_name input at c.in-ok-command.ensures) (sym d)
+      sofar_refused so going (Fails.breaks (name (get_or input (at + 1) 0) (bytes_at input (at + 2) 8)) (drop (at + 10) input) refl (stands_name input at c.in_ok-command.ensures) (sym d)
       (λ keeps. c.if-input-at.true (keeps.0 ∙ ap length is ∙ sym c.count.ensures)));
 }
 
@@ -26,7 +26,7 @@ returns-in-Some c = record {
       let at = c.args.at in
       let names = names_of c.args.legend.now in
       let bytes = bytes_at input (at + 2) 8 in
-      let there = c.in-ok-command.ensures in
+      let there = c.in_ok-command.ensures in
       let told = c.in-Some.ensures in
       let number : get_or input (at + 1) 0 ≡ length names = c.if-input-at.false ∙ c.count.ensures in
       let lawful : Lawful (names ++ bytes ∷ []) = subst (λ (b : List ℕ). Lawful (names ++ b ∷ [])) c.eight.ensures (told.2 law) in
@@ -45,7 +45,7 @@ returns-in-None c = record {
       let input = c.args.input.now in
       let at = c.args.at in
       let told = c.in-None.ensures in
-      sofar_refused so going (Fails.breaks (name (get_or input (at + 1) 0) (bytes_at input (at + 2) 8)) (drop (at + 10) input) refl (stands_name input at c.in-ok-command.ensures) (sym d)
+      sofar_refused so going (Fails.breaks (name (get_or input (at + 1) 0) (bytes_at input (at + 2) 8)) (drop (at + 10) input) refl (stands_name input at c.in_ok-command.ensures) (sym d)
       (λ keeps. told.1 (subst (λ (b : List ℕ). Lawful (names_of c.args.legend.now ++ b ∷ [])) (sym c.eight.ensures)
       (subst (λ (l : List (List ℕ)). Lawful (l ++ bytes_at input (at + 2) 8 ∷ [])) is keeps.1))));
 }

@@ -23,11 +23,11 @@ loop-i-init c =
 pub read-name-requires : goal.read-name-requires
 read-name-requires c = c.loop-i.invariant.0
 
-pub returns-in-err-read-name : goal.returns-in-err-read-name
-returns-in-err-read-name c k n so some =
+pub returns-in_err-read-name : goal.returns-in_err-read-name
+returns-in_err-read-name c k n so some =
     let inv = c.loop-i.invariant.1 k n so some in
     at_exit _ _ c.from-residual.result _ c.from-residual.ensures.1
-    (c.in-err-read-name.ensures.reads _ _ inv.0 refl (name_due k n c.args.marks (names_of c.loop-i.legend) some (omega (arith, inv.1, c.loop-i-test.true))) refl inv.2)
+    (c.in_err-read-name.ensures.reads _ _ inv.0 refl (name_due k n c.args.marks (names_of c.loop-i.legend) some (omega (arith, inv.1, c.loop-i-test.true))) refl inv.2)
 
 pub loop-i-preserved : goal.loop-i-preserved
 loop-i-preserved c =
@@ -36,7 +36,7 @@ loop-i-preserved c =
     let i = c.loop-i.i in
     let names = names_of c.loop-i.legend in
     let b = bytes_at input (4 + i * 10 + 2) 8 in
-    let told = c.in-ok-read-name.ensures in (
+    let told = c.in_ok-read-name.ensures in (
       omega (arith, told.within),
       λ k n so some.
           let inv = c.loop-i.invariant.1 k n so some in

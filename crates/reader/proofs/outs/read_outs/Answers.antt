@@ -15,12 +15,12 @@ loop-j-init c =
 pub command-requires : goal.command-requires
 command-requires c = (omega (arith, c.loop-j.invariant.1), omega arith)
 
-pub returns-in-err-command : goal.returns-in-err-command
-returns-in-err-command c = record {
+pub returns-in_err-command : goal.returns-in_err-command
+returns-in_err-command c = record {
   filled = at_exit_made _ c.from-residual.result _ c.from-residual.ensures.1;
   reads = λ cs s so n left states.
       at_exit _ _ c.from-residual.result _ c.from-residual.ensures.1
-      (command_refused (c.loop-j.invariant.3 cs s so n left states) 4 1 _ _ n.going (outs_due s n c.loop-j.j (omega (arith, c.loop-j-test.true))) refl c.in-err-command.ensures);
+      (command_refused (c.loop-j.invariant.3 cs s so n left states) 4 1 _ _ n.going (outs_due s n c.loop-j.j (omega (arith, c.loop-j-test.true))) refl c.in_err-command.ensures);
 }
 
 pub returns-then-t-states : goal.returns-then-t-states
@@ -28,7 +28,7 @@ returns-then-t-states c = record {
   filled = tt;
   reads = λ cs s so n left states.
       outs_wrong s n c.loop-j.j c.args.input.now (c.args.at + c.loop-j.j * 2) _ (c.loop-j.invariant.3 cs s so n left states) (omega (arith, c.loop-j-test.true))
-      c.in-ok-command.ensures (omega (arith, c.if-t-states.true));
+      c.in_ok-command.ensures (omega (arith, c.if-t-states.true));
 }
 
 pub loop-j-preserved : goal.loop-j-preserved
@@ -41,7 +41,7 @@ loop-j-preserved c =
     let xs = c.loop-j.state.outcomes in
     let inv = c.loop-j.invariant in
     let within : j < length xs = omega (arith, inv.0, c.loop-j-test.true, c.requires.1) in
-    let there = c.in-ok-command.ensures in (
+    let there = c.in_ok-command.ensures in (
       length-set xs j t ∙ inv.0,
       omega (arith, there.whole),
       record { marks = inv.2.marks; counts = inv.2.counts; inside = fill_more 0 xs j t (λ _ x. x < c.args.states) within inv.2.inside c.if-t-states.false },

@@ -11,17 +11,17 @@ use Rattle.reader.specs.Sofar.{Sofar}
 use Rattle.reader.proofs.Exits.{at_exit, at_exit_made}
 use Rattle.reader.proofs.outs.read_state.Goals as goal
 
-pub returns-in-err-head : goal.returns-in-err-head
-returns-in-err-head c = record {
+pub returns-in_err-head : goal.returns-in_err-head
+returns-in_err-head c = record {
   kept = at_exit_made _ c.from-residual.result _ c.from-residual.ensures.1;
   reads = λ cs s so n left states k m few.
       at_exit _ _ c.from-residual.result _ c.from-residual.ensures.1
-      (c.in-err-head.ensures.reads cs s so n.going (due_state s n.going n.some n.all left states) k m);
+      (c.in_err-head.ensures.reads cs s so n.going (due_state s n.going n.some n.all left states) k m);
 }
 
 pub read-outs-requires : goal.read-outs-requires
 read-outs-requires c =
-    let head = c.in-ok-head.ensures.head in
+    let head = c.in_ok-head.ensures.head in
     (head.1, omega (arith, head.0.joint, head.0.counts.ranged.product))
 
 -- what the state's own command leaves to come
@@ -32,15 +32,15 @@ module _ (h : Header) (head : Head) (of : HeadOf h.agents h.marks head) (s : See
   lacks : s.k ≡ h.agents → moves everyone (counts_at head.state) s.k ≡ head.joint
   lacks k = ap (moves everyone (counts_at head.state)) k ∙ sym of.joint
 
-pub returns-in-err-state : goal.returns-in-err-state
-returns-in-err-state c = record {
-  kept = at_exit_made _ c.from-residual-in-err-state.result _ c.from-residual-in-err-state.ensures.1;
+pub returns-in_err-state : goal.returns-in_err-state
+returns-in_err-state c = record {
+  kept = at_exit_made _ c.from_residual-in_err-state.result _ c.from_residual-in_err-state.ensures.1;
   reads = λ cs s so n left states k m few.
-      let told = c.in-ok-head.ensures in
-      let head = c.in-ok-head.head in
+      let told = c.in_ok-head.ensures in
+      let head = c.in_ok-head.head in
       let so1 = told.reads cs s so n.going (due_state s n.going n.some n.all left states) k m in
-      at_exit _ _ c.from-residual-in-err-state.result _ c.from-residual-in-err-state.ensures.1
-      (c.in-err-state.ensures.reads _ _ so1 (to_come c.args.h head told.head.0 s n) (lacks c.args.h head told.head.0 s n k) few);
+      at_exit _ _ c.from_residual-in_err-state.result _ c.from_residual-in_err-state.ensures.1
+      (c.in_err-state.ensures.reads _ _ so1 (to_come c.args.h head told.head.0 s n) (lacks c.args.h head told.head.0 s n k) few);
 }
 
 pub returns : goal.returns
@@ -48,11 +48,11 @@ returns c =
     let input = c.args.input.now in
     let at = c.args.at in
     let agents = c.args.h.agents in
-    let told = c.in-ok-head.ensures in
-    let head = c.in-ok-head.head in
-    let x = c.in-ok-state.state in
+    let told = c.in_ok-head.ensures in
+    let head = c.in_ok-head.head in
+    let x = c.in_ok-state.state in
     let of = told.head.0 in
-    let filled = c.in-ok-state.ensures.filled in
+    let filled = c.in_ok-state.ensures.filled in
     let joint : head.joint ≡ moves everyone (counts_at x) agents = of.joint ∙ ap (λ (l : List ℕ). moves everyone (λ a. get_or l a 0) agents) (sym filled.0.counts) in
     record {
       kept = (
@@ -67,7 +67,7 @@ returns c =
       );
       reads = λ cs s so n left states k m few.
           let so1 = told.reads cs s so n.going (due_state s n.going n.some n.all left states) k m in
-          let so2 = c.in-ok-state.ensures.reads _ _ so1 (to_come c.args.h head of s n) (lacks c.args.h head of s n k) few in
+          let so2 = c.in_ok-state.ensures.reads _ _ so1 (to_come c.args.h head of s n) (lacks c.args.h head of s n k) few in
           let same : (cs ++ state head.state.marks head.state.counts ∷ []) ++ upto (out_command x) head.joint ≡ cs ++ state_commands agents x =
           append_assoc cs (state head.state.marks head.state.counts ∷ []) (upto (out_command x) head.joint)
           ∙ ap (λ (i : ℕ). cs ++ state i head.state.counts ∷ upto (out_command x) head.joint) (sym filled.0.marks)

@@ -8,23 +8,23 @@ use Rattle.text.specs.Parsing as parsing
 use Rattle.report.proofs.Answering.{parsed_accepts, never_refused, answered}
 use Rattle.report.proofs.question.answer.Goals as goal
 
-pub returns-in-err-parse : goal.returns-in-err-parse
-returns-in-err-parse c =
-    let f = c.in-err-parse.field-0.0 in
-    at_exit _ _ c.from-residual-in-err-parse.result _ c.from-residual-in-err-parse.ensures.1 (
+pub returns-in_err-parse : goal.returns-in_err-parse
+returns-in_err-parse c =
+    let f = c.in_err-parse.field-0.0 in
+    at_exit _ _ c.from_residual-in_err-parse.result _ c.from_residual-in_err-parse.ensures.1 (
       omega arith,
       (
-        record { short = omega arith; model = _; names = _; text = _; reads = c.in-ok-text.ensures },
-        subst (λ (k : ℕ). parsing.Refuses (vocabulary (names_of c.read.new.legend) k) c.in-ok-text.text.now 4096 f.rule f.place) c.agents.ensures
-            (subst (λ (n : ℕ). parsing.Refuses (vocabulary (names_of c.read.new.legend) c.agents.result) c.in-ok-text.text.now n f.rule f.place) (ap length c.empty-lines.ensures.places)
-            c.in-err-parse.ensures.cases.0),
+        record { short = omega arith; model = _; names = _; text = _; reads = c.in_ok-text.ensures },
+        subst (λ (k : ℕ). parsing.Refuses (vocabulary (names_of c.read.new.legend) k) c.in_ok-text.text.now 4096 f.rule f.place) c.agents.ensures
+            (subst (λ (n : ℕ). parsing.Refuses (vocabulary (names_of c.read.new.legend) c.agents.result) c.in_ok-text.text.now n f.rule f.place) (ap length c.empty-lines.ensures.places)
+            c.in_err-parse.ensures.cases.0),
       ),
     )
 
 pub unreachable-requires : goal.unreachable-requires
 unreachable-requires c =
     let l = c.read.new.legend in
-    let p = c.in-ok-parse.ensures.cases in
+    let p = c.in_ok-parse.ensures.cases in
     let few : length c.items.result.now ≤ 4096 =
     omega (arith, ap length c.items.ensures, length-take c.parse.new.lines.count c.parse.new.lines.places.now, p.filled.size, ap length c.empty-lines.ensures.places) in
     never_refused (table_of c.read.new.table.states c.read.new.table.agents c.read.new.table.rows) l p.formula (parsed_accepts l c.agents.ensures p).spelled.over c.items.result.now
@@ -33,10 +33,10 @@ unreachable-requires c =
 pub returns : goal.returns
 returns c =
     let l = c.read.new.legend in
-    let p = c.in-ok-parse.ensures.cases in
+    let p = c.in_ok-parse.ensures.cases in
     let a = parsed_accepts l c.agents.ensures p in
     record {
-      asks = record { short = omega arith; model = _; names = _; text = _; reads = c.in-ok-text.ensures };
+      asks = record { short = omega arith; model = _; names = _; text = _; reads = c.in_ok-text.ensures };
       formula = p.formula;
       few = p.short;
       spells = a;

@@ -8,7 +8,7 @@ use Rattle.text.specs.Shown.{shown}
 use Rattle.text.proofs.Sights.{seen}
 use Rattle.text.proofs.parts.connective.Goals as goal
 
-unlike : (c : goal.After-undue) (j : Joint) → shown c.in-ok-read.read.token ≡ joint_tok j → ⊥
+unlike : (c : goal.After-undue) (j : Joint) → shown c.in_ok-read.read.token ≡ joint_tok j → ⊥
 unlike c joint.And e = c.in-default.not-And (seen _ e)
 unlike c joint.Or e = c.in-default.not-Or (seen _ e)
 
@@ -16,5 +16,5 @@ pub returns-in-default : goal.returns-in-default
 returns-in-default c = (
   c.undue.ensures.rule,
   subst (λ (p : ℕ). Miss c.args.text.now c.args.from (λ (t : Tok). (j : Joint) × (t ≡ joint_tok j)) p) (sym c.undue.ensures.place)
-      (Miss.other _ _ c.in-ok-read.ensures.0 (λ h. unlike c h.0 h.1)),
+      (Miss.other _ _ c.in_ok-read.ensures.0 (λ h. unlike c h.0 h.1)),
 )

@@ -9,5 +9,5 @@ pub returns-else-is-mark : goal.returns-else-is-mark
 returns-else-is-mark c = (
   c.undue.ensures.rule,
   subst (λ (p : ℕ). Miss c.args.text.now c.args.from (λ (t : Tok). t ≡ mark_tok c.args.mark) p) (sym c.undue.ensures.place)
-      (Miss.other _ _ c.in-ok-read.ensures.0 (not_from_Decides _ c.is-mark.ensures c.if-is-mark.false)),
+      (Miss.other _ _ c.in_ok-read.ensures.0 (not_from_Decides _ c.is-mark.ensures c.if-is-mark.false)),
 )

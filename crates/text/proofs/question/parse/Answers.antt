@@ -5,16 +5,16 @@ use Rattle.list.proofs.Exits.{at_exit}
 use Rattle.text.proofs.Wholes.{refuses}
 use Rattle.text.proofs.question.parse.Goals as goal
 
-pub returns-in-err-whole : goal.returns-in-err-whole
-returns-in-err-whole c = record {
+pub returns-in_err-whole : goal.returns-in_err-whole
+returns-in_err-whole c = record {
   cases = at_exit _ _ c.from-residual.result _ c.from-residual.ensures.1
-      (refuses _ c.in-err-whole.field-0.0.rule (omega arith) c.in-err-whole.ensures, c.clear.ensures.emptied);
+      (refuses _ c.in_err-whole.field-0.0.rule (omega arith) c.in_err-whole.ensures, c.clear.ensures.emptied);
   named = c.clear.ensures.named;
 }
 
 pub returns-in-Err : goal.returns-in-Err
 returns-in-Err c =
-    let f = c.in-ok-whole.ensures in
+    let f = c.in_ok-whole.ensures in
     let full = c.in-Err.ensures in
     let empty = c.clear.ensures.emptied in
     record {

@@ -38,87 +38,87 @@ use Rattle.text.proofs.Sights.{seen}
 use Rattle.text.proofs.Steps.{parted_before, leaf, stated, one, two}
 use Rattle.text.proofs.reader.+pair_path_state_strategy_until.Goals as goal
 
-pub pair-returns-in-err-left : goal.pair-returns-in-err-left
-pair-returns-in-err-left t c =
+pub pair-returns-in_err-left : goal.pair-returns-in_err-left
+pair-returns-in_err-left t c =
     let V = terms_of c.args.terms.now in
     at_exit _ _ c.from-residual.result _ c.from-residual.ensures.1
-    (lift (frame_left V c.args.allow) c.in-err-left.ensures)
+    (lift (frame_left V c.args.allow) c.in_err-left.ensures)
 
-pub pair-returns-in-err-op : goal.pair-returns-in-err-op
-pair-returns-in-err-op t c =
+pub pair-returns-in_err-op : goal.pair-returns-in_err-op
+pair-returns-in_err-op t c =
     let V = terms_of c.args.terms.now in
-    let h = c.in-ok-left.ensures in
+    let h = c.in_ok-left.ensures in
     let f = h.formula in
-    let e = c.in-err-op.ensures in
-    at_exit _ _ c.from-residual-in-err-op.result _ c.from-residual-in-err-op.ensures.1
+    let e = c.in_err-op.ensures in
+    at_exit _ _ c.from_residual-in_err-op.result _ c.from_residual-in_err-op.ensures.1
     (astray _ (print V.word c.args.allow f) _ refl e.0 (lexed h) t_and (due-joint V c.args.allow f h.ends.over) (only_joint V c.args.allow f) e.1)
 
-pub pair-returns-in-err-right : goal.pair-returns-in-err-right
-pair-returns-in-err-right t c =
+pub pair-returns-in_err-right : goal.pair-returns-in_err-right
+pair-returns-in_err-right t c =
     let V = terms_of c.args.terms.now in
     let d = c.args.allow in
-    let h = c.in-ok-left.ensures in
+    let h = c.in_ok-left.ensures in
     let f = h.formula in
-    let j = c.in-ok-op.op.joint in
-    at_exit _ _ c.from-residual-in-err-right.result _ c.from-residual-in-err-right.ensures.1
-    (wrong_before c.args.from (t_open ∷ []) (print V.word d f ++ (joint_tok j ∷ [])) (lexes_more _ _ _ _ (print V.word d f) (joint_tok j ∷ []) (lexed h) c.in-ok-op.ensures.2)
-    (lift (frame_right V d j f h.ends.over) c.in-err-right.ensures))
+    let j = c.in_ok-op.op.joint in
+    at_exit _ _ c.from_residual-in_err-right.result _ c.from_residual-in_err-right.ensures.1
+    (wrong_before c.args.from (t_open ∷ []) (print V.word d f ++ (joint_tok j ∷ [])) (lexes_more _ _ _ _ (print V.word d f) (joint_tok j ∷ []) (lexed h) c.in_ok-op.ensures.2)
+    (lift (frame_right V d j f h.ends.over) c.in_err-right.ensures))
 
-pub pair-returns-in-err-next : goal.pair-returns-in-err-next
-pair-returns-in-err-next t c =
+pub pair-returns-in_err-next : goal.pair-returns-in_err-next
+pair-returns-in_err-next t c =
     let V = terms_of c.args.terms.now in
     let d = c.args.allow in
-    let h = c.in-ok-left.ensures in
-    let k = c.in-ok-right.ensures in
+    let h = c.in_ok-left.ensures in
+    let k = c.in_ok-right.ensures in
     let f = h.formula in
     let g = k.formula in
-    let j = c.in-ok-op.op.joint in
-    let e = c.in-err-next.ensures in
-    at_exit _ _ c.from-residual-in-err-next.result _ c.from-residual-in-err-next.ensures.1
+    let j = c.in_ok-op.op.joint in
+    let e = c.in_err-next.ensures in
+    at_exit _ _ c.from_residual-in_err-next.result _ c.from_residual-in_err-next.ensures.1
     (astray _ (print V.word d f ++ (joint_tok j ∷ print V.word d g)) _ refl e.0
-    (lexes_more _ _ _ _ (print V.word d f) _ (lexed h) (lexes_more _ _ c.in-ok-op.op.next _ (joint_tok j ∷ []) (print V.word d g) c.in-ok-op.ensures.2 (lexed k)))
+    (lexes_more _ _ _ _ (print V.word d f) _ (lexed h) (lexes_more _ _ c.in_ok-op.op.next _ (joint_tok j ∷ []) (print V.word d g) c.in_ok-op.ensures.2 (lexed k)))
     t_close (due_close V d j f g h.ends.over k.ends.over) (only_close V d j f g) e.1)
 
 pub pair-returns : goal.pair-returns
 pair-returns t c =
     let V = terms_of c.args.terms.now in
-    let j = c.in-ok-op.op.joint in
-    let op = c.in-ok-op.ensures in
-    let end = c.in-ok-next.ensures in
-    two c.in-ok-next.next (t_open ∷ []) (joint_tok j) (joined_by j) (joint_line j) (over_joined V j) (print_joined V.word c.args.allow j) (flat_joined j)
-    c.in-ok-left.ensures op.1 op.2 c.in-ok-right.ensures end.1 end.2 end.0 c.join-line.ensures
+    let j = c.in_ok-op.op.joint in
+    let op = c.in_ok-op.ensures in
+    let end = c.in_ok-next.ensures in
+    two c.in_ok-next.next (t_open ∷ []) (joint_tok j) (joined_by j) (joint_line j) (over_joined V j) (print_joined V.word c.args.allow j) (flat_joined j)
+    c.in_ok-left.ensures op.1 op.2 c.in_ok-right.ensures end.1 end.2 end.0 c.join-line.ensures
 
-pub path-returns-in-err-begun : goal.path-returns-in-err-begun
-path-returns-in-err-begun t c =
+pub path-returns-in_err-begun : goal.path-returns-in_err-begun
+path-returns-in_err-begun t c =
     let V = terms_of c.args.terms.now in
     let A = who c.args.agents in
-    let e = c.in-err-begun.ensures in
+    let e = c.in_err-begun.ensures in
     at_exit _ _ c.from-residual.result _ c.from-residual.ensures.1
     (astray _ [] (group A []) (append-nil (group A [])) e.0 refl t_next (due_path V c.args.allow A c.requires.2) (only_path V c.args.allow A) (no_lead e.1))
 
-pub path-returns-in-err-part : goal.path-returns-in-err-part
-path-returns-in-err-part t c =
+pub path-returns-in_err-part : goal.path-returns-in_err-part
+path-returns-in_err-part t c =
     let V = terms_of c.args.terms.now in
     let A = who c.args.agents in
     let h = c.in-Onward.ahead in
-    let l = subst (λ (x : Lead). Lexes c.args.text.now c.args.from (lead_tok x ∷ []) c.in-ok-begun.begun.next) c.in-Onward.is c.in-ok-begun.ensures.2 in
-    at_exit _ _ c.from-residual-in-err-part.result _ c.from-residual-in-err-part.ensures.1
-    (wrong_before c.args.from (group A []) (ahead_tok h ∷ []) l (told (sym (group_more A [] (ahead_tok h ∷ []))) (lift (frame_ahead V c.args.allow A c.requires.2 h) c.in-err-part.ensures)))
+    let l = subst (λ (x : Lead). Lexes c.args.text.now c.args.from (lead_tok x ∷ []) c.in_ok-begun.begun.next) c.in-Onward.is c.in_ok-begun.ensures.2 in
+    at_exit _ _ c.from_residual-in_err-part.result _ c.from_residual-in_err-part.ensures.1
+    (wrong_before c.args.from (group A []) (ahead_tok h ∷ []) l (told (sym (group_more A [] (ahead_tok h ∷ []))) (lift (frame_ahead V c.args.allow A c.requires.2 h) c.in_err-part.ensures)))
 
-pub path-returns-in-ok-part : goal.path-returns-in-ok-part
-path-returns-in-ok-part t c =
+pub path-returns-in_ok-part : goal.path-returns-in_ok-part
+path-returns-in_ok-part t c =
     let V = terms_of c.args.terms.now in
     let A = who c.args.agents in
     let h = c.in-Onward.ahead in
-    let l = subst (λ (x : Lead). Lexes c.args.text.now c.args.from (lead_tok x ∷ []) c.in-ok-begun.begun.next) c.in-Onward.is c.in-ok-begun.ensures.2 in
-    parted_before c.args.from (group A []) (ahead_tok h ∷ []) c.in-ok-begun.ensures.1 l (parted_told (sym (group_more A [] (ahead_tok h ∷ [])))
-    (one (group A (ahead_tok h ∷ [])) (ahead_by h A) (ahead_line h A) (over_ahead V h A c.requires.2) (λ f. print_ahead V.word c.args.allow h A f ∙ sym (group_more A (ahead_tok h ∷ []) _)) (flat_ahead h A) c.in-ok-part.ensures c.path-line.ensures))
+    let l = subst (λ (x : Lead). Lexes c.args.text.now c.args.from (lead_tok x ∷ []) c.in_ok-begun.begun.next) c.in-Onward.is c.in_ok-begun.ensures.2 in
+    parted_before c.args.from (group A []) (ahead_tok h ∷ []) c.in_ok-begun.ensures.1 l (parted_told (sym (group_more A [] (ahead_tok h ∷ [])))
+    (one (group A (ahead_tok h ∷ [])) (ahead_by h A) (ahead_line h A) (over_ahead V h A c.requires.2) (λ f. print_ahead V.word c.args.allow h A f ∙ sym (group_more A (ahead_tok h ∷ []) _)) (flat_ahead h A) c.in_ok-part.ensures c.path-line.ensures))
 
 pub path-returns-in-Until : goal.path-returns-in-Until
 path-returns-in-Until t c =
     let A = who c.args.agents in
-    let le = c.in-ok-begun.ensures.1 in
-    let l = subst (λ (x : Lead). Lexes c.args.text.now c.args.from (lead_tok x ∷ []) c.in-ok-begun.begun.next) c.in-Until.is c.in-ok-begun.ensures.2 in
+    let le = c.in_ok-begun.ensures.1 in
+    let l = subst (λ (x : Lead). Lexes c.args.text.now c.args.from (lead_tok x ∷ []) c.in_ok-begun.begun.next) c.in-Until.is c.in_ok-begun.ensures.2 in
     MatchResult-weaker c.until.result c.until.ensures
     (λ m h. parted_before c.args.from (group A []) (t_open ∷ []) le l (parted_told (sym (group_more A [] (t_open ∷ []))) h))
     (λ f h. wrong_before c.args.from (group A []) (t_open ∷ []) l (told (sym (group_more A [] (t_open ∷ []))) h))
@@ -127,102 +127,102 @@ pub state-returns-then-allow-eq0 : goal.state-returns-then-allow-eq0
 state-returns-then-allow-eq0 t c =
     wrong_at 0 (omega (arith, c.if-allow-eq0.true)) (too_deep c.run.ensures)
 
-pub state-returns-in-err-read : goal.state-returns-in-err-read
-state-returns-in-err-read t c =
+pub state-returns-in_err-read : goal.state-returns-in_err-read
+state-returns-in_err-read t c =
     let V = terms_of c.args.terms.now in
     let d = c.args.allow - 1 in
     let deeper : suc d ≡ c.args.allow = omega arith in
-    let e = c.in-err-read.ensures in
+    let e = c.in_err-read.ensures in
     at_exit _ _ c.from-residual.result _ c.from-residual.ensures.1
     (wrong_at (suc d) deeper (astray _ [] [] refl e.0 refl t_true (due_start V d) (only_start V d) (Miss.strange e.1)))
 
-pub state-returns-in-err-found : goal.state-returns-in-err-found
-state-returns-in-err-found t c =
+pub state-returns-in_err-found : goal.state-returns-in_err-found
+state-returns-in_err-found t c =
     let V = terms_of c.args.terms.now in
     let d = c.args.allow - 1 in
     let deeper : suc d ≡ c.args.allow = omega arith in
-    let at = tok_is c.in-ok-read.ensures c.in-Name.is in
-    let e = c.in-err-found.ensures in
-    at_exit _ _ c.from-residual-in-err-found.result _ c.from-residual-in-err-found.ensures.1
+    let at = tok_is c.in_ok-read.ensures c.in-Name.is in
+    let e = c.in_err-found.ensures in
+    at_exit _ _ c.from_residual-in_err-found.result _ c.from_residual-in_err-found.ensures.1
     (wrong_at (suc d) deeper (ruled _ rule.Name e.0 e.1 (no_mark d _ _ at.0 e.2)))
 
-pub state-returns-in-err-part : goal.state-returns-in-err-part
-state-returns-in-err-part t c =
+pub state-returns-in_err-part : goal.state-returns-in_err-part
+state-returns-in_err-part t c =
     let V = terms_of c.args.terms.now in
     let d = c.args.allow - 1 in
     let deeper : suc d ≡ c.args.allow = omega arith in
-    let at = tok_is c.in-ok-read.ensures c.in-Not.is in
-    at_exit _ _ c.from-residual-in-err-part.result _ c.from-residual-in-err-part.ensures.1
-    (wrong_at (suc d) deeper (wrong_before c.args.from [] (t_not ∷ []) (lex_one at.0) (lift (frame_not V d) c.in-err-part.ensures)))
+    let at = tok_is c.in_ok-read.ensures c.in-Not.is in
+    at_exit _ _ c.from_residual-in_err-part.result _ c.from_residual-in_err-part.ensures.1
+    (wrong_at (suc d) deeper (wrong_before c.args.from [] (t_not ∷ []) (lex_one at.0) (lift (frame_not V d) c.in_err-part.ensures)))
 
-pub state-returns-in-err-made : goal.state-returns-in-err-made
-state-returns-in-err-made t c =
+pub state-returns-in_err-made : goal.state-returns-in_err-made
+state-returns-in_err-made t c =
     let d = c.args.allow - 1 in
     let deeper : suc d ≡ c.args.allow = omega arith in
-    let at = tok_is c.in-ok-read.ensures c.in-Open.is in
-    at_exit _ _ c.from-residual-in-err-made.result _ c.from-residual-in-err-made.ensures.1
-    (wrong_at (suc d) deeper (wrong_before c.args.from [] (t_open ∷ []) (lex_one at.0) c.in-err-made.ensures))
+    let at = tok_is c.in_ok-read.ensures c.in-Open.is in
+    at_exit _ _ c.from_residual-in_err-made.result _ c.from_residual-in_err-made.ensures.1
+    (wrong_at (suc d) deeper (wrong_before c.args.from [] (t_open ∷ []) (lex_one at.0) c.in_err-made.ensures))
 
-pub state-returns-in-err-made-2 : goal.state-returns-in-err-made-2
-state-returns-in-err-made-2 t c =
+pub state-returns-in_err-made-2 : goal.state-returns-in_err-made-2
+state-returns-in_err-made-2 t c =
     let d = c.args.allow - 1 in
     let deeper : suc d ≡ c.args.allow = omega arith in
-    let at = tok_is c.in-ok-read.ensures c.in-Less.is in
-    at_exit _ _ c.from-residual-in-err-made-2.result _ c.from-residual-in-err-made-2.ensures.1
-    (wrong_at (suc d) deeper (wrong_before c.args.from [] (t_less ∷ []) (lex_one at.0) c.in-err-made-2.ensures))
+    let at = tok_is c.in_ok-read.ensures c.in-Less.is in
+    at_exit _ _ c.from_residual-in_err-made-2.result _ c.from_residual-in_err-made-2.ensures.1
+    (wrong_at (suc d) deeper (wrong_before c.args.from [] (t_less ∷ []) (lex_one at.0) c.in_err-made-2.ensures))
 
 pub state-returns-in-True : goal.state-returns-in-True
 state-returns-in-True t c =
     let d = c.args.allow - 1 in
     let deeper : suc d ≡ c.args.allow = omega arith in
-    let at = tok_is c.in-ok-read.ensures c.in-True.is in
+    let at = tok_is c.in_ok-read.ensures c.in-True.is in
     let p = c.put.ensures in
     stated_at deeper (stated c.put.result at.0 (λ e. omega (arith, ap tag e))
     (leaf verum t_true tt refl refl (tok_within at.0).1)
     p.next p.line p.added)
 
-pub state-returns-in-ok-found : goal.state-returns-in-ok-found
-state-returns-in-ok-found t c =
-    let m = c.in-ok-found.ensures in
+pub state-returns-in_ok-found : goal.state-returns-in_ok-found
+state-returns-in_ok-found t c =
+    let m = c.in_ok-found.ensures in
     let d = c.args.allow - 1 in
     let deeper : suc d ≡ c.args.allow = omega arith in
-    let at = tok_is c.in-ok-read.ensures c.in-Name.is in
+    let at = tok_is c.in_ok-read.ensures c.in-Name.is in
     let p = c.put-in-Name.ensures in
     stated_at deeper (stated c.put-in-Name.result at.0 (λ e. omega (arith, ap tag e))
-    (leaf (mark c.in-ok-found.found) _ m.0 (ap (λ (w : List ℕ). t_name w ∷ []) m.1) refl (tok_within at.0).1)
+    (leaf (mark c.in_ok-found.found) _ m.0 (ap (λ (w : List ℕ). t_name w ∷ []) m.1) refl (tok_within at.0).1)
     p.next p.line p.added)
 
-pub state-returns-in-ok-part : goal.state-returns-in-ok-part
-state-returns-in-ok-part t c =
+pub state-returns-in_ok-part : goal.state-returns-in_ok-part
+state-returns-in_ok-part t c =
     let d = c.args.allow - 1 in
     let deeper : suc d ≡ c.args.allow = omega arith in
-    let at = tok_is c.in-ok-read.ensures c.in-Not.is in
+    let at = tok_is c.in_ok-read.ensures c.in-Not.is in
     let p = c.put-in-Not.ensures in
     stated_at deeper (stated c.put-in-Not.result at.0 (λ e. omega (arith, ap tag e))
-    (one (t_not ∷ []) neg logic.Not (λ f o. o) (λ f. refl) (λ f q. refl) c.in-ok-part.ensures refl)
+    (one (t_not ∷ []) neg logic.Not (λ f o. o) (λ f. refl) (λ f q. refl) c.in_ok-part.ensures refl)
     p.next p.line p.added)
 
-pub state-returns-in-ok-made : goal.state-returns-in-ok-made
-state-returns-in-ok-made t c =
+pub state-returns-in_ok-made : goal.state-returns-in_ok-made
+state-returns-in_ok-made t c =
     let d = c.args.allow - 1 in
     let deeper : suc d ≡ c.args.allow = omega arith in
-    let at = tok_is c.in-ok-read.ensures c.in-Open.is in
+    let at = tok_is c.in_ok-read.ensures c.in-Open.is in
     let p = c.put-in-Open.ensures in
     stated_at deeper (stated c.put-in-Open.result at.0 (λ e. omega (arith, ap tag e))
-    c.in-ok-made.ensures
+    c.in_ok-made.ensures
     p.next p.line p.added)
 
-pub state-returns-in-ok-made-2 : goal.state-returns-in-ok-made-2
-state-returns-in-ok-made-2 t c =
+pub state-returns-in_ok-made-2 : goal.state-returns-in_ok-made-2
+state-returns-in_ok-made-2 t c =
     let d = c.args.allow - 1 in
     let deeper : suc d ≡ c.args.allow = omega arith in
-    let at = tok_is c.in-ok-read.ensures c.in-Less.is in
+    let at = tok_is c.in_ok-read.ensures c.in-Less.is in
     let p = c.put-in-Less.ensures in
     stated_at deeper (stated c.put-in-Less.result at.0 (λ e. omega (arith, ap tag e))
-    c.in-ok-made-2.ensures
+    c.in_ok-made-2.ensures
     p.next p.line p.added)
 
-starts-not : (t : ℕ) (c : goal.state-After-undue t) (k : Tok) → shown c.in-ok-read.read.token ≡ k → Starts k → ⊥
+starts-not : (t : ℕ) (c : goal.state-After-undue t) (k : Tok) → shown c.in_ok-read.read.token ≡ k → Starts k → ⊥
 starts-not t c k e (Starts.true i) = c.in-default.not-True (seen _ (e ∙ i))
 starts-not t c k e (Starts.name w i) = let h = seen _ (e ∙ i) in c.in-default.not-Name h.0 h.1
 starts-not t c k e (Starts.not i) = c.in-default.not-Not (seen _ (e ∙ i))
@@ -235,64 +235,64 @@ state-returns-in-default t c =
     let d = c.args.allow - 1 in
     let deeper : suc d ≡ c.args.allow = omega arith in
     ruled _ rule.Token c.undue.ensures.rule c.undue.ensures.place
-    (wrong_at (suc d) deeper (missed c.args.from [] [] refl t_true (due_start V d) (only_start V d) (Miss.other _ _ c.in-ok-read.ensures.0 (starts-not t c _ refl))))
+    (wrong_at (suc d) deeper (missed c.args.from [] [] refl t_true (due_start V d) (only_start V d) (Miss.other _ _ c.in_ok-read.ensures.0 (starts-not t c _ refl))))
 
-pub strategy-returns-in-err-named : goal.strategy-returns-in-err-named
-strategy-returns-in-err-named t c =
+pub strategy-returns-in_err-named : goal.strategy-returns-in_err-named
+strategy-returns-in_err-named t c =
     at_exit _ _ c.from-residual.result _ c.from-residual.ensures.1
-    (c.in-err-named.ensures c.args.allow)
+    (c.in_err-named.ensures c.args.allow)
 
 pub strategy-returns : goal.strategy-returns
 strategy-returns t c =
-    let g = c.in-ok-named.ensures in
-    let A = who c.in-ok-named.named.members in
+    let g = c.in_ok-named.ensures in
+    let A = who c.in_ok-named.named.members in
     MatchResult-weaker c.path.result c.path.ensures
     (λ m h. parted_before c.args.from (t_less ∷ []) (members A ++ (t_greater ∷ [])) g.1 g.3 h)
     (λ f h. wrong_before c.args.from (t_less ∷ []) (members A ++ (t_greater ∷ [])) g.3 h)
 
-pub until-returns-in-err-left : goal.until-returns-in-err-left
-until-returns-in-err-left t c =
+pub until-returns-in_err-left : goal.until-returns-in_err-left
+until-returns-in_err-left t c =
     let V = terms_of c.args.terms.now in
     let A = who c.args.agents in
     let d = c.args.allow in
     at_exit _ _ c.from-residual.result _ c.from-residual.ensures.1
-    (lift (frame_first V d A c.requires.2) c.in-err-left.ensures)
+    (lift (frame_first V d A c.requires.2) c.in_err-left.ensures)
 
-pub until-returns-in-err-then : goal.until-returns-in-err-then
-until-returns-in-err-then t c =
+pub until-returns-in_err-then : goal.until-returns-in_err-then
+until-returns-in_err-then t c =
     let V = terms_of c.args.terms.now in
     let A = who c.args.agents in
     let d = c.args.allow in
-    let h = c.in-ok-left.ensures in
+    let h = c.in_ok-left.ensures in
     let f = h.formula in
-    let e = c.in-err-then.ensures in
-    at_exit _ _ c.from-residual-in-err-then.result _ c.from-residual-in-err-then.ensures.1
+    let e = c.in_err-then.ensures in
+    at_exit _ _ c.from_residual-in_err-then.result _ c.from_residual-in_err-then.ensures.1
     (astray _ (print V.word d f) _ (group_more A (t_open ∷ []) (print V.word d f)) e.0 (lexed h) t_until (due_until V d A f c.requires.2 h.ends.over) (only_until V d A f) e.1)
 
-pub until-returns-in-err-right : goal.until-returns-in-err-right
-until-returns-in-err-right t c =
+pub until-returns-in_err-right : goal.until-returns-in_err-right
+until-returns-in_err-right t c =
     let V = terms_of c.args.terms.now in
     let A = who c.args.agents in
     let d = c.args.allow in
-    let h = c.in-ok-left.ensures in
+    let h = c.in_ok-left.ensures in
     let f = h.formula in
-    at_exit _ _ c.from-residual-in-err-right.result _ c.from-residual-in-err-right.ensures.1
-    (wrong_before c.args.from (group A (t_open ∷ [])) (print V.word d f ++ (t_until ∷ [])) (lexes_more _ _ _ _ (print V.word d f) (t_until ∷ []) (lexed h) c.in-ok-then.ensures.2)
-    (told (sym (group_more A (t_open ∷ []) (print V.word d f ++ (t_until ∷ [])))) (lift (frame_second V d A c.requires.2 f h.ends.over) c.in-err-right.ensures)))
+    at_exit _ _ c.from_residual-in_err-right.result _ c.from_residual-in_err-right.ensures.1
+    (wrong_before c.args.from (group A (t_open ∷ [])) (print V.word d f ++ (t_until ∷ [])) (lexes_more _ _ _ _ (print V.word d f) (t_until ∷ []) (lexed h) c.in_ok-then.ensures.2)
+    (told (sym (group_more A (t_open ∷ []) (print V.word d f ++ (t_until ∷ [])))) (lift (frame_second V d A c.requires.2 f h.ends.over) c.in_err-right.ensures)))
 
-pub until-returns-in-err-next : goal.until-returns-in-err-next
-until-returns-in-err-next t c =
+pub until-returns-in_err-next : goal.until-returns-in_err-next
+until-returns-in_err-next t c =
     let V = terms_of c.args.terms.now in
     let A = who c.args.agents in
     let d = c.args.allow in
-    let h = c.in-ok-left.ensures in
-    let k = c.in-ok-right.ensures in
+    let h = c.in_ok-left.ensures in
+    let k = c.in_ok-right.ensures in
     let f = h.formula in
     let g = k.formula in
-    let e = c.in-err-next.ensures in
-    at_exit _ _ c.from-residual-in-err-next.result _ c.from-residual-in-err-next.ensures.1
+    let e = c.in_err-next.ensures in
+    at_exit _ _ c.from_residual-in_err-next.result _ c.from_residual-in_err-next.ensures.1
     (astray _ (print V.word d f ++ (t_until ∷ print V.word d g)) _ (group_more A (t_open ∷ []) (print V.word d f ++ (t_until ∷ print V.word d g))) e.0
-    (lexes_more _ _ _ _ (print V.word d f) _ (lexed h) (lexes_more _ _ c.in-ok-then.then _ (t_until ∷ []) (print V.word d g) c.in-ok-then.ensures.2 (lexed k)))
+    (lexes_more _ _ _ _ (print V.word d f) _ (lexed h) (lexes_more _ _ c.in_ok-then.then _ (t_until ∷ []) (print V.word d g) c.in_ok-then.ensures.2 (lexed k)))
     t_close (due_last V d A f g c.requires.2 h.ends.over k.ends.over) (only_last V d A f g) e.1)
 
 pub until-returns : goal.until-returns
@@ -300,7 +300,7 @@ until-returns t c =
     let V = terms_of c.args.terms.now in
     let A = who c.args.agents in
     let d = c.args.allow in
-    let op = c.in-ok-then.ensures in
-    let end = c.in-ok-next.ensures in
-    two c.in-ok-next.next (group A (t_open ∷ [])) t_until (until A) (logic.Until A) (λ f g a b. (c.requires.2, a, b)) (λ f g. sym (group_more A (t_open ∷ []) _)) (λ f g q. refl)
-    c.in-ok-left.ensures op.1 op.2 c.in-ok-right.ensures end.1 end.2 end.0 refl
+    let op = c.in_ok-then.ensures in
+    let end = c.in_ok-next.ensures in
+    two c.in_ok-next.next (group A (t_open ∷ [])) t_until (until A) (logic.Until A) (λ f g a b. (c.requires.2, a, b)) (λ f g. sym (group_more A (t_open ∷ []) _)) (λ f g q. refl)
+    c.in_ok-left.ensures op.1 op.2 c.in_ok-right.ensures end.1 end.2 end.0 refl

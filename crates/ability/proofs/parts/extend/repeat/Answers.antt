@@ -12,8 +12,8 @@ value c =
     let before = c.loop-j.invariant.1 (c.loop-j.j - c.args.width) (omega (arith, c.loop-j.auto.j, c.requires.0)) in
     omega (arith, before, repeat_more c.args.own.now c.args.width c.args.step c.loop-j.j c.requires.0 c.loop-j.auto.j)
 
-pub overflow-add-own : goal.overflow-add-own
-overflow-add-own c = omega (arith, value c, c.requires.2 c.loop-j.j c.loop-j-test.true)
+pub overflow_add-own : goal.overflow_add-own
+overflow_add-own c = omega (arith, value c, c.requires.2 c.loop-j.j c.loop-j-test.true)
 
 pub loop-j-preserved : goal.loop-j-preserved
 loop-j-preserved c = (

@@ -18,8 +18,8 @@ returns-then-d-lt1 c r =
 fits : (c : goal.Else-d-joint) → c.loop-a.joint * counts_at c.args.self c.loop-a.a ≤ 64
 fits c = product_fits (counts_at c.args.self) c.loop-a.a c.loop-a.joint c.loop-a.invariant.0 c.loop-a.invariant.1 c.if-d-joint.false
 
-pub overflow-mul-joint : goal.overflow-mul-joint
-overflow-mul-joint c = omega (arith, fits c)
+pub overflow_mul-joint : goal.overflow_mul-joint
+overflow_mul-joint c = omega (arith, fits c)
 
 pub loop-a-preserved : goal.loop-a-preserved
 loop-a-preserved c =

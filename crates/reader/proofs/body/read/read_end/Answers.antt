@@ -14,13 +14,13 @@ returns-then-told-total c = record {
       let at = c.args.at in
       let x = c.from.result * 256 + c.from-2.result in
       sofar_refused so n.going (Fails.breaks (finish x) (drop (at + 3) input) tt
-      (stands_end input at x (omega arith) (omega (arith, c.from.ensures, c.from-2.ensures)) c.in-ok-command.ensures)
+      (stands_end input at x (omega arith) (omega (arith, c.from.ensures, c.from-2.ensures)) c.in_ok-command.ensures)
       (sym (due_end s n.going n.some n.all left states)) (λ e. c.if-told-total.true (e ∙ outs)));
 }
 
 pub returns : goal.returns
 returns c =
-    let there = c.in-ok-command.ensures in
+    let there = c.in_ok-command.ensures in
     record {
       within = omega (arith, there.whole);
       reads = λ cs s so n left states outs.

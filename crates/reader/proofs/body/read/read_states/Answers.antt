@@ -9,12 +9,12 @@ use Rattle.reader.proofs.Exits.{at_exit, at_exit_made}
 use Rattle.reader.proofs.Rowing.{body_naming, rows_more}
 use Rattle.reader.proofs.body.read.read_states.Goals as goal
 
-pub returns-in-err-head : goal.returns-in-err-head
-returns-in-err-head c = record {
+pub returns-in_err-head : goal.returns-in_err-head
+returns-in_err-head c = record {
   kept = at_exit_made _ c.from-residual.result _ c.from-residual.ensures.1;
   reads = λ cs names e some so.
       at_exit _ _ c.from-residual.result _ c.from-residual.ensures.1
-      (c.in-err-head.ensures.reads _ _ (c.loop-s.invariant.4 cs names e some so) (body_naming _ _ _ names c.loop-s.s c.loop-s.body.total e some) refl c.loop-s-test.true refl refl refl);
+      (c.in_err-head.ensures.reads _ _ (c.loop-s.invariant.4 cs names e some so) (body_naming _ _ _ names c.loop-s.s c.loop-s.body.total e some) refl c.loop-s-test.true refl refl refl);
 }
 
 pub loop-s-preserved : goal.loop-s-preserved
@@ -27,10 +27,10 @@ loop-s-preserved c =
     let xs = c.loop-s.body.states in
     let next = c.loop-s.body.next in
     let total = c.loop-s.body.total in
-    let x = c.in-ok-head.head.state in
-    let joint = c.in-ok-head.head.joint in
+    let x = c.in_ok-head.head.state in
+    let joint = c.in_ok-head.head.joint in
     let inv = c.loop-s.invariant in
-    let told = c.in-ok-head.ensures in
+    let told = c.in_ok-head.ensures in
     let within : s < length xs = omega (arith, inv.0, c.loop-s-test.true, c.requires.1) in (
       length-set xs s x ∙ inv.0,
       omega (arith, told.kept.2),
