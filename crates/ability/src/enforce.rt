@@ -12,8 +12,8 @@ use sets::state_set::StateSet;
 
 /// The own choices such that every joint move agreeing with one of them leads from a state into `x`.
 fn leading<G: Game>(g: &G, s: u8, x: StateSet, parts: &Parts) -> StateSet
-    requires s_bound { s < (G.Game.model g.now).n }
-    requires count_le_limit { parts.now.count ≤ limit }
+    requires state { s < (G.Game.model g.now).n }
+    requires few { parts.now.count ≤ limit }
     ensures { (c : ℕ) → T (member result c) ↔ Leads (G.Game.model g.now) s (member x) parts.now (joint (G.Game.model g.now) s) c }
 {
     let mut free = StateSet::below(parts.count);

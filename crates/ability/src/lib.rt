@@ -1,4 +1,6 @@
 //! What a coalition can bring about in one step.
+#![tactic(auto)]
+
 mod enforce;
 mod own;
 mod parts;

@@ -11,8 +11,8 @@ use sets::coalition::Coalition;
 
 /// How many choices an agent has at a state, both of which exist.
 fn agent_choices<G: Game>(g: &G, s: u8, i: u8) -> u8
-    requires s_bound { s < (G.Game.model g.now).n }
-    requires i_bound { i < (G.Game.model g.now).k }
+    requires state { s < (G.Game.model g.now).n }
+    requires agent { i < (G.Game.model g.now).k }
     ensures { result ≡ (G.Game.model g.now).d s i }
 {
     match g.choices(s, i) {

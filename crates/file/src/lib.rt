@@ -1,3 +1,5 @@
 //! The model file.
+#![tactic(auto)]
+
 mod put;
 pub mod write;

@@ -57,8 +57,8 @@ fn count_at<G: Game>(g: &G, s: u8, a: u8) -> u8
 
 /// Puts the six counts of a state that exists.
 fn put_counts<G: Game>(bytes: &mut List<u8>, g: &G, s: u8)
-    requires s_bound { s < (G.Game.model g.now).n }
-    requires bound { 6 ≤ room bytes.old }
+    requires state { s < (G.Game.model g.now).n }
+    requires room { 6 ≤ room bytes.old }
     ensures { Puts bytes.old bytes.new (counts_at (G.Game.model g.now) s) }
 {
     for a in 0..6 {
@@ -68,8 +68,8 @@ fn put_counts<G: Game>(bytes: &mut List<u8>, g: &G, s: u8)
 
 /// Puts the outcomes at a state that exists, each as a command.
 fn put_outs<G: Game>(bytes: &mut List<u8>, g: &G, s: u8)
-    requires s_bound { s < (G.Game.model g.now).n }
-    requires s_bound_2 { joint (G.Game.model g.now) s * 2 ≤ room bytes.old }
+    requires state { s < (G.Game.model g.now).n }
+    requires room { joint (G.Game.model g.now) s * 2 ≤ room bytes.old }
     ensures { Puts bytes.old bytes.new (upto (out_bytes (G.Game.model g.now) s) (joint (G.Game.model g.now) s)) }
 {
     let mut j = 0;
@@ -92,8 +92,8 @@ fn marks_at<G: Game>(g: &G, s: u8) -> u16
 
 /// Puts a state that exists, with its outcomes.
 fn put_state<G: Game>(bytes: &mut List<u8>, g: &G, s: u8)
-    requires s_bound { s < (G.Game.model g.now).n }
-    requires s_len_bound { length (state_bytes (G.Game.model g.now) s) ≤ room bytes.old }
+    requires state { s < (G.Game.model g.now).n }
+    requires room { length (state_bytes (G.Game.model g.now) s) ≤ room bytes.old }
     ensures { Puts bytes.old bytes.new (state_bytes (G.Game.model g.now) s) }
 {
     let marks = marks_at(g, s);

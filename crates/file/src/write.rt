@@ -94,8 +94,8 @@ fn file_length<G: Game>(g: &G, legend: &Legend, total: u16) -> usize
 
 /// Puts the file of a model and its legend, where there is room for it.
 fn put_file<G: Game>(bytes: &mut List<u8>, g: &G, legend: &Legend, total: u16)
-    requires total_value { total ≡ outcomes (G.Game.model g.now) (G.Game.model g.now).n }
-    requires legend_len_bound { length (file_of (G.Game.model g.now) (names_of legend.now)) ≤ room bytes.old }
+    requires total { total ≡ outcomes (G.Game.model g.now) (G.Game.model g.now).n }
+    requires room { length (file_of (G.Game.model g.now) (names_of legend.now)) ≤ room bytes.old }
     ensures { Puts bytes.old bytes.new (file_of (G.Game.model g.now) (names_of legend.now)) }
 {
     put_all(bytes, &[1, g.agents(), g.states(), legend.count()]);

@@ -28,8 +28,8 @@ pub(crate) fn command(
     code: u8,
     operands: usize,
 ) -> Result<(), FileFault>
-    requires place_in_bounds { place ≤ length input.now }
-    requires operands_bound { operands < 16 }
+    requires within { place ≤ length input.now }
+    requires few { operands < 16 }
     ensures { MatchResult result (λ _. Stands input.now place code operands) (λ f. (f.place ≡ place) × ((s : Seen) → due s ≡ code → size code ≡ operands → Fails s (drop place input.now) (rule_number f.rule))) }
 {
     let found = byte(input, place, place)?;

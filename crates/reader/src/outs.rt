@@ -16,8 +16,8 @@ use model::state::State;
 
 /// Reads an OUT for each joint move of a state, of so many states.
 fn read_outs(input: &[u8], at: usize, states: u8, head: Head) -> Result<State, FileFault>
-    requires at_in_bounds { at ≤ length input.now }
-    requires joint_bound { head.joint ≤ 64 }
+    requires within { at ≤ length input.now }
+    requires few { head.joint ≤ 64 }
     ensures filled { IfOk result (λ x. Filled states head.joint head.state x × (at + head.joint * 2 ≤ length input.now)) }
     ensures reads { (cs : List Command) (s : Seen) → Sofar input.now at cs s → Naming s → s.left ≡ head.joint → s.n ≡ states → MatchResult result (λ x. Sofar input.now (at + head.joint * 2) (cs ++ upto (out_command x) head.joint) (outs_seen s head.joint)) (λ f. Refused input.now (rule_number f.rule) f.place) }
 {

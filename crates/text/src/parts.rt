@@ -74,8 +74,8 @@ pub(crate) struct Group {
 
 /// Adds a line, for which there is a place, and answers its number.
 pub(crate) fn put(lines: &mut List<Line>, line: Line, next: usize) -> Done
-    requires lines_nonzero { 0 < room lines.old }
-    requires places_len_bound { length lines.old.places.now ≤ most_bytes }
+    requires room { 0 < room lines.old }
+    requires size { length lines.old.places.now ≤ most_bytes }
     ensures next { result.next ≡ next }
     ensures line { result.line ≡ lines.old.count }
     ensures added { Extends lines.old lines.new (line ∷ []) }

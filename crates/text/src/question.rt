@@ -23,7 +23,7 @@ use logic::line::Line;
 /// Reads a state and the end of the text after it, into an empty list with a place for each byte.
 fn whole(text: &[u8], terms: &Terms, lines: &mut List<Line>) -> Result<(), TextFault>
     requires spare { Spare text.now 0 lines.old }
-    requires count_value { lines.old.count ≡ 0 }
+    requires empty { lines.old.count ≡ 0 }
     ensures { MatchResult result (λ _. (f : Formula) × Accepts (terms_of terms.now) text.now f × (question (items lines.new) ≡ flatten f [])) (λ f. Rejects (terms_of terms.now) text.now (rule_number f.rule) f.place) }
 {
     let done = state(text, 0, 32, terms, lines)?;

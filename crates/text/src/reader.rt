@@ -29,7 +29,7 @@ pub(crate) fn state(
     terms: &Terms,
     lines: &mut List<Line>,
 ) -> Result<Done, TextFault>
-    requires from_in_bounds { from ≤ length text.now }
+    requires within { from ≤ length text.now }
     requires spare { Spare text.now from lines.old }
     ensures { MatchResult result (λ d. Stated (terms_of terms.now) allow text.now from lines.old lines.new d.next d.line) (λ f. Wrong (terms_of terms.now) (print (terms_of terms.now).word allow) text.now [] from (rule_number f.rule) f.place) }
 {
@@ -71,7 +71,7 @@ fn pair(
     terms: &Terms,
     lines: &mut List<Line>,
 ) -> Result<Made, TextFault>
-    requires from_in_bounds { from ≤ length text.now }
+    requires within { from ≤ length text.now }
     requires spare { Spare text.now from lines.old }
     ensures { MatchResult result (λ m. Parted (terms_of terms.now) (suc allow) text.now (t_open ∷ []) from lines.old lines.new m.next m.line) (λ f. Wrong (terms_of terms.now) (print (terms_of terms.now).word (suc allow)) text.now (t_open ∷ []) from (rule_number f.rule) f.place) }
 {
@@ -94,7 +94,7 @@ fn strategy(
     terms: &Terms,
     lines: &mut List<Line>,
 ) -> Result<Made, TextFault>
-    requires from_in_bounds { from ≤ length text.now }
+    requires within { from ≤ length text.now }
     requires spare { Spare text.now from lines.old }
     ensures { MatchResult result (λ m. Parted (terms_of terms.now) (suc allow) text.now (t_less ∷ []) from lines.old lines.new m.next m.line) (λ f. Wrong (terms_of terms.now) (print (terms_of terms.now).word (suc allow)) text.now (t_less ∷ []) from (rule_number f.rule) f.place) }
 {
@@ -112,9 +112,9 @@ fn path(
     terms: &Terms,
     lines: &mut List<Line>,
 ) -> Result<Made, TextFault>
-    requires from_in_bounds { from ≤ length text.now }
+    requires within { from ≤ length text.now }
     requires spare { Spare text.now from lines.old }
-    requires agents_bound { who agents < 2 ^ (terms_of terms.now).agents }
+    requires members { who agents < 2 ^ (terms_of terms.now).agents }
     ensures { MatchResult result (λ m. Parted (terms_of terms.now) (suc allow) text.now (group (who agents) []) from lines.old lines.new m.next m.line) (λ f. Wrong (terms_of terms.now) (print (terms_of terms.now).word (suc allow)) text.now (group (who agents) []) from (rule_number f.rule) f.place) }
 {
     let begun = path_lead(text, from)?;
@@ -140,9 +140,9 @@ fn until(
     terms: &Terms,
     lines: &mut List<Line>,
 ) -> Result<Made, TextFault>
-    requires from_in_bounds { from ≤ length text.now }
+    requires within { from ≤ length text.now }
     requires spare { Spare text.now from lines.old }
-    requires agents_bound { who agents < 2 ^ (terms_of terms.now).agents }
+    requires members { who agents < 2 ^ (terms_of terms.now).agents }
     ensures { MatchResult result (λ m. Parted (terms_of terms.now) (suc allow) text.now (group (who agents) (t_open ∷ [])) from lines.old lines.new m.next m.line) (λ f. Wrong (terms_of terms.now) (print (terms_of terms.now).word (suc allow)) text.now (group (who agents) (t_open ∷ [])) from (rule_number f.rule) f.place) }
 {
     let left = state(text, from, allow, terms, lines)?;

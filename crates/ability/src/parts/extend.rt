@@ -6,9 +6,9 @@ use super::Parts;
 
 /// Fills the places from `width` to `end`: what stands `width` places before, and `step` more.
 fn repeat(own: &mut [u8; 64], width: u8, end: u8, step: u8)
-    requires le_width { 1 ≤ width }
-    requires end_bound { end ≤ 64 }
-    requires by_index { (j : ℕ) → j < end → slice_index own.old (j % width) + j / width * step < 256 }
+    requires some { 1 ≤ width }
+    requires room { end ≤ 64 }
+    requires fits { (j : ℕ) → j < end → slice_index own.old (j % width) + j / width * step < 256 }
     ensures { (j : ℕ) → j < end → slice_index own.new j ≡ slice_index own.old (j % width) + j / width * step }
 {
     for j in width..end {

@@ -17,8 +17,8 @@ use model::state::State;
 
 /// Reads all states.
 pub(crate) fn read_states(input: &[u8], from: usize, h: Header) -> Result<Body, FileFault>
-    requires from_in_bounds { from ≤ length input.now }
-    requires states_bound { h.states ≤ 64 }
+    requires within { from ≤ length input.now }
+    requires few { h.states ≤ 64 }
     ensures kept { IfOk result (λ b. (b.next ≤ length input.now) × (length b.states ≡ 64) × ((t : ℕ) → t < h.states → Kept h.states h.agents h.marks (slice_index_or b.states t nowhere))) }
     ensures reads { (cs : List Command) (names : List (List ℕ)) → length names ≡ h.marks → 1 ≤ h.agents → Sofar input.now from cs (body_seen h.agents h.states h.marks names 0 0) → MatchResult result (λ b. Sofar input.now b.next (cs ++ upto (row_commands h.agents b.states) h.states) (body_seen h.agents h.states h.marks names h.states b.total)) (λ f. Refused input.now (rule_number f.rule) f.place) }
 {

@@ -11,7 +11,7 @@ pub leading-requires : goal.leading-requires
 leading-requires g c =
     let M = g.G.Game.model c.args.g.now in
     let s : c.args.s < M.n = search rules in
-    (s, parts_few M (g.met.G.Game.ranged c.args.g.now) c.args.s s (bit (who c.args.a)) c.own-parts-parts.result c.own-parts-parts.ensures)
+    record { state = s; few = parts_few M (g.met.G.Game.ranged c.args.g.now) c.args.s s (bit (who c.args.a)) c.own_parts-parts.result c.own_parts-parts.ensures }
 
 pub returns-then-s-states : goal.returns-then-s-states
 returns-then-s-states g c = record {
@@ -23,12 +23,12 @@ pub returns : goal.returns
 returns g c =
     let M = g.G.Game.model c.args.g.now in
     let s = c.args.s in
-    let parts = c.own-parts-parts.ensures in
-    let agree : (j : ℕ) → j < joint M s → get_or c.own-parts-parts.result.own j 0 ≡ own_of M (who c.args.a) s j = λ j l. parts.own j (omega (arith, parts.width)) in
+    let parts = c.own_parts-parts.ensures in
+    let agree : (j : ℕ) → j < joint M s → get_or c.own_parts-parts.result.own j 0 ≡ own_of M (who c.args.a) s j = λ j l. parts.own j (omega (arith, parts.width)) in
     record {
       can = (
         λ t.
-            let some = some_member c.leading.result (λ none. (T_not c.is-empty.result).0 t (c.is-empty.ensures.1 none)) in
+            let some = some_member c.leading.result (λ none. (T_not c.is_empty.result).0 t (c.is_empty.ensures.1 none)) in
             let leads = (c.leading.ensures some.0).0 some.1 in
             record {
               coalition = search rules;
@@ -37,8 +37,8 @@ returns g c =
               below = omega (arith, leads.below, parts.count);
               leads = λ j l e. leads.into j l (agree j l ∙ e);
             },
-        λ p. (T_not c.is-empty.result).1 (λ none.
-            c.is-empty.ensures.0 none p.with ((c.leading.ensures p.with).1 (record {
+        λ p. (T_not c.is_empty.result).1 (λ none.
+            c.is_empty.ensures.0 none p.with ((c.leading.ensures p.with).1 (record {
               below = omega (arith, p.below, parts.count);
               into = λ j l e. p.leads j l (sym (agree j l) ∙ e);
             }))),

@@ -3,8 +3,8 @@ use Rattle.sets.specs.Sets.{who}
 use Rattle.model.proofs.Numbers.{numbering}
 use Rattle.ability.proofs.own.own_choice.Goals as goal
 
-pub returns-then-not-is-among : goal.returns-then-not-is-among
-returns-then-not-is-among g c = record {
+pub returns-then-not-is_among : goal.returns-then-not-is_among
+returns-then-not-is_among g c = record {
   value = search rules;
   numbering = λ l. numbering _ (g.met.G.Game.ranged c.args.g.now) (who c.args.a) c.args.s l;
 }
@@ -21,5 +21,5 @@ returns-in-None g c = record {
   numbering = λ l. numbering _ (g.met.G.Game.ranged c.args.g.now) (who c.args.a) c.args.s l;
 }
 
-pub bounds-own-parts-j : goal.bounds-own-parts-j
-bounds-own-parts-j g c = omega (arith, c.in-Some.ensures.0, (g.met.G.Game.ranged c.args.g.now).product c.args.s c.in-Some.ensures.0.0)
+pub bounds-own_parts-j : goal.bounds-own_parts-j
+bounds-own_parts-j g c = omega (arith, c.in-Some.ensures.0, (g.met.G.Game.ranged c.args.g.now).product c.args.s c.in-Some.ensures.0.0)

@@ -7,10 +7,10 @@ use Rattle.file.proofs.put.put_counts.Goals as goal
 pub put-requires : goal.put-requires
 put-requires g c =
     let M = g.G.Game.model c.args.g.now in
-    omega (arith, c.requires.1, puts_room c.loop-a.invariant, length-upto (λ a. count_of M c.args.s a ∷ []) 1 c.loop-a.a (λ i l. refl))
+    omega (arith, c.requires.room, puts_room c.loop-a.invariant, length-upto (λ a. count_of M c.args.s a ∷ []) 1 c.loop-a.a (λ i l. refl))
 
 pub loop-a-preserved : goal.loop-a-preserved
 loop-a-preserved g c =
     let M = g.G.Game.model c.args.g.now in
     let f : ℕ → List ℕ = λ a. count_of M c.args.s a ∷ [] in
-    puts_same (sym (upto_more f c.loop-a.a)) (puts_more c.loop-a.invariant (puts_same (ap (λ (x : ℕ). x ∷ []) c.count-at.ensures) c.put.ensures))
+    puts_same (sym (upto_more f c.loop-a.a)) (puts_more c.loop-a.invariant (puts_same (ap (λ (x : ℕ). x ∷ []) c.count_at.ensures) c.put.ensures))

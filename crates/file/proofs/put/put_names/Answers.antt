@@ -6,18 +6,18 @@ use Rattle.file.proofs.Putting.{puts_more, puts_room, puts_same}
 use Rattle.file.proofs.Spanning.{upto_more, names_length}
 use Rattle.file.proofs.put.put_names.Goals as goal
 
-pub put-all-requires : goal.put-all-requires
-put-all-requires c =
+pub put_all-requires : goal.put_all-requires
+put_all-requires c =
     let l = c.args.legend.now in
     omega (arith, c.requires, c.in-Some.ensures.0, puts_room c.loop-name.invariant.1, names_length l c.loop-name.i c.loop-name.invariant.0)
 
-pub put-all-requires-in-Some : goal.put-all-requires-in-Some
-put-all-requires-in-Some c =
+pub put_all-requires-in-Some : goal.put_all-requires-in-Some
+put_all-requires-in-Some c =
     let l = c.args.legend.now in
     let told = c.in-Some.ensures in
-    omega (arith, c.requires, told.0, puts_room c.loop-name.invariant.1, names_length l c.loop-name.i c.loop-name.invariant.0, puts_room c.put-all.ensures, ap length told.1, name_eight l c.loop-name.i told.0)
+    omega (arith, c.requires, told.0, puts_room c.loop-name.invariant.1, names_length l c.loop-name.i c.loop-name.invariant.0, puts_room c.put_all.ensures, ap length told.1, name_eight l c.loop-name.i told.0)
 
-few : (c : goal.After-put-all-in-Some) → c.loop-name.i < 16
+few : (c : goal.After-put_all-in-Some) → c.loop-name.i < 16
 few c = omega (arith, c.in-Some.ensures.0, names_few c.args.legend.now)
 
 pub overflow_add-i : goal.overflow_add-i
@@ -33,5 +33,5 @@ loop-name-preserved c =
     let i = c.loop-name.i in (
       omega (arith, told.0),
       puts_same (sym (upto_more (name_bytes names) i))
-          (puts_more c.loop-name.invariant.1 (puts_more c.put-all.ensures (puts_same told.1 c.put-all-in-Some.ensures))),
+          (puts_more c.loop-name.invariant.1 (puts_more c.put_all.ensures (puts_same told.1 c.put_all-in-Some.ensures))),
     )

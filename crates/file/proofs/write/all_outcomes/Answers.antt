@@ -8,6 +8,6 @@ loop-s-preserved g c =
     let M = g.G.Game.model c.args.g.now in
     let tied = ap (λ (m : Marks). m.n) (g.met.G.Game.tied c.args.g.now) in
     let there : c.loop-s.s < M.n = omega (arith, tied, c.loop-s-test.true, c.states-s-end.ensures) in (
-      omega (arith, c.loop-s.invariant.0, outcomes_more M c.loop-s.s, c.joint-moves.ensures, c.from-total.ensures),
-      omega (arith, c.loop-s.invariant.1, c.joint-moves.ensures, c.from-total.ensures, (g.met.G.Game.ranged c.args.g.now).product c.loop-s.s there),
+      omega (arith, c.loop-s.invariant.0, outcomes_more M c.loop-s.s, c.joint_moves.ensures, c.from-total.ensures),
+      omega (arith, c.loop-s.invariant.1, c.joint_moves.ensures, c.from-total.ensures, (g.met.G.Game.ranged c.args.g.now).product c.loop-s.s there),
     )

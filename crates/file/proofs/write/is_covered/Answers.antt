@@ -6,5 +6,5 @@ use Rattle.file.proofs.write.is_covered.Goals as goal
 pub returns : goal.returns
 returns g c =
     let tied = g.met.G.Game.tied c.args.g.now in
-    subst (λ (n : ℕ). T c.is-named.result ↔ Named (marks_of (g.G.Game.model c.args.g.now)) n) c.count.ensures
-    (subst (λ (m : Marks). T c.is-named.result ↔ Named m c.count.result) (sym tied) c.is-named.ensures)
+    subst (λ (n : ℕ). T c.is_named.result ↔ Named (marks_of (g.G.Game.model c.args.g.now)) n) c.count.ensures
+    (subst (λ (m : Marks). T c.is_named.result ↔ Named m c.count.result) (sym tied) c.is_named.ensures)

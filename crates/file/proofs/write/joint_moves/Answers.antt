@@ -1,5 +1,4 @@
 use Rattle.std.proofs.Common.{arith}
-use Rattle.file.proofs.write.joint_moves.Given as given
 use Rattle.file.proofs.write.joint_moves.Goals as goal
 
 pub overflow_add-j : goal.overflow_add-j

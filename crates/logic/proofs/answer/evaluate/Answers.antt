@@ -13,11 +13,11 @@ pub loop-i-init : goal.loop-i-init
 unfolding question
 loop-i-init g c = (refl, refl, λ p l. absurd (omega arith), λ s. (λ t. c.empty-answer.ensures s t, λ z. absurd z))
 
-pub slice-bounds-line-set-end : goal.slice-bounds-line-set-end
-slice-bounds-line-set-end g c = omega (arith, c.loop-i.invariant.0, c.in_ok-judge.ensures.sized.places, c.loop-i-test.true)
+pub slice-bounds-line_set-end : goal.slice-bounds-line_set-end
+slice-bounds-line_set-end g c = omega (arith, c.loop-i.invariant.0, c.in_ok-judge.ensures.sized.places, c.loop-i-test.true)
 
-pub line-set-answer-requires : goal.line-set-answer-requires
-line-set-answer-requires g c =
+pub line_set-answer-requires : goal.line_set-answer-requires
+line_set-answer-requires g c =
     let accepted = c.in_ok-judge.ensures in
     let i = c.loop-i.i in
     let l = line_of (get_or c.args.lines.now i True) in
@@ -38,11 +38,11 @@ loop-i-preserved g c =
     let q = question (take i lines) in
     let within : i < length c.loop-i.sets = omega (arith, inv.0, c.in_ok-judge.ensures.sized.places, c.loop-i-test.true) in
     let past : i < i + 1 = omega arith in
-    let here = c.line-set-answer.ensures (said q) (rw sub-zero (tell_front M c.loop-i.sets i (said q) inv.2)) in (
+    let here = c.line_set-answer.ensures (said q) (rw sub-zero (tell_front M c.loop-i.sets i (said q) inv.2)) in (
       length-set _ _ _ ∙ inv.0,
       drop-set-lt _ _ _ _ past ∙ sym (drop-drop 1 i c.loop-i.sets) ∙ ap (drop 1) inv.1 ∙ drop-drop 1 i c.args.sets.now,
-      tell_more lines i c.loop-i-test.true M c.loop-i.sets c.line-set-answer.result within inv.2 here,
-      answer_more lines i c.loop-i-test.true M c.line-set-answer.result here,
+      tell_more lines i c.loop-i-test.true M c.loop-i.sets c.line_set-answer.result within inv.2 here,
+      answer_more lines i c.loop-i-test.true M c.line_set-answer.result here,
     )
 
 pub returns : goal.returns

@@ -7,7 +7,7 @@ use Rattle.logic.proofs.fixpoint.until.Goals as goal
 pub rounds-smaller : goal.rounds-smaller
 rounds-smaller g c =
     shrinks c.rounds.rest c.difference-rest.result (λ s t. ((c.difference-rest.ensures s).0 t).0)
-    (λ all. c.if-is-empty.ensures.1 (λ s t. ((c.difference-rest.ensures s).0 (all s ((c.able-more.ensures s).0 t).0)).1 t))
+    (λ all. c.if-is_empty.ensures.1 (λ s t. ((c.difference-rest.ensures s).0 (all s ((c.able-more.ensures s).0 t).0)).1 t))
 
 pub rounds-preserved : goal.rounds-preserved
 rounds-preserved g c =
@@ -26,14 +26,14 @@ rounds-preserved g c =
       ],
     )
 
-pub returns-then-is-empty : goal.returns-then-is-empty
-returns-then-is-empty g c s =
+pub returns-then-is_empty : goal.returns-then-is_empty
+returns-then-is_empty g c s =
     let old = c.rounds.invariant in
     let tied = ap (λ (m : Marks). m.n) (g.met.G.Game.tied c.args.g.now) in (
       λ t. let p = (c.intersection.ensures s).0 t in
           (omega (arith, ((c.below.ensures s).0 p.1).0, c.states.ensures, tied), λ X closed. old.3 X closed s p.0),
       λ p. (c.intersection.ensures s).1 (
-        p.1 (member c.rounds.x) (old.0, λ u h e. elim (old.2 u h) [ inl k ↦ k | inr k ↦ absurd (c.if-is-empty.ensures.0 tt u ((c.able-more.ensures u).1 (k, e))) ]),
+        p.1 (member c.rounds.x) (old.0, λ u h e. elim (old.2 u h) [ inl k ↦ k | inr k ↦ absurd (c.if-is_empty.ensures.0 tt u ((c.able-more.ensures u).1 (k, e))) ]),
         (c.below.ensures s).1 (omega (arith, p.0, c.states.ensures, tied), omega (arith, p.0, (g.met.G.Marked.in_range c.args.g.now).states.1, tied)),
       ),
     )

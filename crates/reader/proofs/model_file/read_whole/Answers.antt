@@ -24,13 +24,13 @@ returns-in_err-body c =
     let l = c.in_ok-legend.ensures _ _ h.1 h.0.0.0 in
     at_exit _ _ c.from_residual-in_err-body.result _ c.from_residual-in_err-body.ensures.1 (rejects (c.in_err-body.ensures.reads _ _ l.1 h.0.0.0 l.0))
 
-pub returns-in_err-read-end : goal.returns-in_err-read-end
-returns-in_err-read-end c =
+pub returns-in_err-read_end : goal.returns-in_err-read_end
+returns-in_err-read_end c =
     let h = c.in_ok-h.ensures in
     let l = c.in_ok-legend.ensures _ _ h.1 h.0.0.0 in
     let b = c.in_ok-body.ensures.reads _ _ l.1 h.0.0.0 l.0 in
-    at_exit _ _ c.from_residual-in_err-read-end.result _ c.from_residual-in_err-read-end.ensures.1
-    (rejects (c.in_err-read-end.ensures.reads _ _ b (body_naming _ _ _ (names_of c.in_ok-legend.legend) _ _ l.1 h.0.0.0) refl (omega arith) refl))
+    at_exit _ _ c.from_residual-in_err-read_end.result _ c.from_residual-in_err-read_end.ensures.1
+    (rejects (c.in_err-read_end.ensures.reads _ _ b (body_naming _ _ _ (names_of c.in_ok-legend.legend) _ _ l.1 h.0.0.0) refl (omega arith) refl))
 
 -- the part of the states that were read
 module _ (n : ℕ) (xs : List State) (within : n ≤ length xs) where
@@ -59,7 +59,7 @@ returns c =
     let head = c.in_ok-h.ensures in
     let l = c.in_ok-legend.ensures _ _ head.1 head.0.0.0 in
     let b = c.in_ok-body.ensures.reads _ _ l.1 head.0.0.0 l.0 in
-    let e = c.in_ok-read-end.ensures in
+    let e = c.in_ok-read_end.ensures in
     let few : h.states ≤ length xs = omega (arith, head.0.1.1, c.in_ok-body.ensures.kept.1) in
     let file = whole_file h.states h.agents h.marks names xs _ head.0 l.2 l.1 c.in_ok-body.ensures.kept.2 (part_copied h.states xs few)
     input _ _ _ _ b (e.reads _ _ b (body_naming _ _ _ names _ _ l.1 head.0.0.0) refl (omega arith) refl) in (

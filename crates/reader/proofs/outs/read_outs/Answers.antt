@@ -10,7 +10,7 @@ use Rattle.reader.proofs.outs.read_outs.Goals as goal
 
 pub loop-j-init : goal.loop-j-init
 loop-j-init c =
-    (omega arith, omega (arith, c.requires.0), record { marks = refl; counts = refl; inside = λ i l. absurd (omega arith) }, λ cs s so n left states. outs_none _ _ cs s so)
+    (omega arith, omega (arith, c.requires.within), record { marks = refl; counts = refl; inside = λ i l. absurd (omega arith) }, λ cs s so n left states. outs_none _ _ cs s so)
 
 pub command-requires : goal.command-requires
 command-requires c = (omega (arith, c.loop-j.invariant.1), omega arith)
@@ -40,7 +40,7 @@ loop-j-preserved c =
     let t = get_or input (place + 1) 0 in
     let xs = c.loop-j.state.outcomes in
     let inv = c.loop-j.invariant in
-    let within : j < length xs = omega (arith, inv.0, c.loop-j-test.true, c.requires.1) in
+    let within : j < length xs = omega (arith, inv.0, c.loop-j-test.true, c.requires.few) in
     let there = c.in_ok-command.ensures in (
       length-set xs j t ∙ inv.0,
       omega (arith, there.whole),

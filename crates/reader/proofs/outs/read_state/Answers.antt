@@ -19,8 +19,8 @@ returns-in_err-head c = record {
       (c.in_err-head.ensures.reads cs s so n.going (due_state s n.going n.some n.all left states) k m);
 }
 
-pub read-outs-requires : goal.read-outs-requires
-read-outs-requires c =
+pub read_outs-requires : goal.read_outs-requires
+read_outs-requires c =
     let head = c.in_ok-head.ensures.head in
     (head.1, omega (arith, head.0.joint, head.0.counts.ranged.product))
 

@@ -3,8 +3,8 @@ use Rattle.list.proofs.Joins.{puts_room, puts_more, puts_same}
 use Rattle.report.proofs.Decimal.{three}
 use Rattle.report.proofs.listing.put_state.Goals as goal
 
-pub put-number-requires : goal.put-number-requires
-put-number-requires c = omega (arith, c.requires, puts_room c.put.ensures, three c.args.s c.ranges.s.fits)
+pub put_number-requires : goal.put_number-requires
+put_number-requires c = omega (arith, c.requires, puts_room c.put.ensures, three c.args.s c.ranges.s.fits)
 
 pub returns-then-contains : goal.returns-then-contains
-returns-then-contains c = puts_same (ap (λ (b : Bool). cond b (32 ∷ decimal c.args.s) []) c.if-contains.ensures) (puts_more c.put.ensures c.put-number.ensures)
+returns-then-contains c = puts_same (ap (λ (b : Bool). cond b (32 ∷ decimal c.args.s) []) c.if-contains.ensures) (puts_more c.put.ensures c.put_number.ensures)

@@ -7,11 +7,11 @@ use Rattle.report.specs.Listings.{spaced}
 use Rattle.report.proofs.Decimal.{states-length}
 use Rattle.report.proofs.listing.put_states.Goals as goal
 
-pub put-state-requires : goal.put-state-requires
-put-state-requires c = omega (arith, c.requires, puts_room c.loop-s.invariant, states-length (member c.args.set) c.loop-s.s (omega arith), c.loop-s-test.true)
+pub put_state-requires : goal.put_state-requires
+put_state-requires c = omega (arith, c.requires, puts_room c.loop-s.invariant, states-length (member c.args.set) c.loop-s.s (omega arith), c.loop-s-test.true)
 
 pub loop-s-preserved : goal.loop-s-preserved
-loop-s-preserved c = puts_same (sym (upto_more (spaced (member c.args.set)) c.loop-s.s)) (puts_more c.loop-s.invariant c.put-state.ensures)
+loop-s-preserved c = puts_same (sym (upto_more (spaced (member c.args.set)) c.loop-s.s)) (puts_more c.loop-s.invariant c.put_state.ensures)
 
 pub returns : goal.returns
 returns c =

@@ -5,9 +5,9 @@ use Rattle.grammar.specs.Parts.{Miss}
 use Rattle.text.specs.Readings.{mark_tok}
 use Rattle.text.proofs.parts.due.Goals as goal
 
-pub returns-else-is-mark : goal.returns-else-is-mark
-returns-else-is-mark c = (
+pub returns-else-is_mark : goal.returns-else-is_mark
+returns-else-is_mark c = (
   c.undue.ensures.rule,
   subst (λ (p : ℕ). Miss c.args.text.now c.args.from (λ (t : Tok). t ≡ mark_tok c.args.mark) p) (sym c.undue.ensures.place)
-      (Miss.other _ _ c.in_ok-read.ensures.0 (not_from_Decides _ c.is-mark.ensures c.if-is-mark.false)),
+      (Miss.other _ _ c.in_ok-read.ensures.0 (not_from_Decides _ c.is_mark.ensures c.if-is_mark.false)),
 )

@@ -20,5 +20,5 @@ returns c =
     let terms = c.args.terms.now in (
       h.formula,
       whole_state terms.legend terms.agents h c.in_ok-due.ensures.2,
-      h.lines ∙ ap (λ n. flatten h.formula (question (take n c.args.lines.now.places.now))) c.requires.1 ∙ ap (flatten h.formula) question_none,
+      h.lines ∙ ap (λ n. flatten h.formula (question (take n c.args.lines.now.places.now))) c.requires.empty ∙ ap (flatten h.formula) question_none,
     )

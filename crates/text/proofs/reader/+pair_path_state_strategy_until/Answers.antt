@@ -86,7 +86,7 @@ pair-returns t c =
     let op = c.in_ok-op.ensures in
     let end = c.in_ok-next.ensures in
     two c.in_ok-next.next (t_open ∷ []) (joint_tok j) (joined_by j) (joint_line j) (over_joined V j) (print_joined V.word c.args.allow j) (flat_joined j)
-    c.in_ok-left.ensures op.1 op.2 c.in_ok-right.ensures end.1 end.2 end.0 c.join-line.ensures
+    c.in_ok-left.ensures op.1 op.2 c.in_ok-right.ensures end.1 end.2 end.0 c.join_line.ensures
 
 pub path-returns-in_err-begun : goal.path-returns-in_err-begun
 path-returns-in_err-begun t c =
@@ -112,7 +112,7 @@ path-returns-in_ok-part t c =
     let h = c.in-Onward.ahead in
     let l = subst (λ (x : Lead). Lexes c.args.text.now c.args.from (lead_tok x ∷ []) c.in_ok-begun.begun.next) c.in-Onward.is c.in_ok-begun.ensures.2 in
     parted_before c.args.from (group A []) (ahead_tok h ∷ []) c.in_ok-begun.ensures.1 l (parted_told (sym (group_more A [] (ahead_tok h ∷ [])))
-    (one (group A (ahead_tok h ∷ [])) (ahead_by h A) (ahead_line h A) (over_ahead V h A c.requires.2) (λ f. print_ahead V.word c.args.allow h A f ∙ sym (group_more A (ahead_tok h ∷ []) _)) (flat_ahead h A) c.in_ok-part.ensures c.path-line.ensures))
+    (one (group A (ahead_tok h ∷ [])) (ahead_by h A) (ahead_line h A) (over_ahead V h A c.requires.2) (λ f. print_ahead V.word c.args.allow h A f ∙ sym (group_more A (ahead_tok h ∷ []) _)) (flat_ahead h A) c.in_ok-part.ensures c.path_line.ensures))
 
 pub path-returns-in-Until : goal.path-returns-in-Until
 path-returns-in-Until t c =

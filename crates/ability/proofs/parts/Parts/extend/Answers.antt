@@ -4,7 +4,7 @@ use Rattle.ability.proofs.Repeating.{repeat_fits}
 use Rattle.ability.proofs.parts.Parts.extend.Goals as goal
 
 pub repeat-requires : goal.repeat-requires
-repeat-requires c = (c.requires.some.0, c.requires.few, λ j h. omega (arith, repeat_fits c.args.self.now c.args.d c.requires j h))
+repeat-requires c = record { some = c.requires.some.0; room = c.requires.few; fits = λ j h. omega (arith, repeat_fits c.args.self.now c.args.d c.requires j h) }
 
 pub overflow_mul-self : goal.overflow_mul-self
 overflow_mul-self c = omega (arith, c.requires.few, mul-le c.args.self.now.count c.args.d c.args.self.now.width c.args.d c.requires.counts (omega arith))

@@ -31,7 +31,7 @@ loop-s-preserved c =
     let joint = c.in_ok-head.head.joint in
     let inv = c.loop-s.invariant in
     let told = c.in_ok-head.ensures in
-    let within : s < length xs = omega (arith, inv.0, c.loop-s-test.true, c.requires.1) in (
+    let within : s < length xs = omega (arith, inv.0, c.loop-s-test.true, c.requires.few) in (
       length-set xs s x ∙ inv.0,
       omega (arith, told.kept.2),
       omega (arith, inv.2, c.from.ensures, told.kept.1, told.kept.0.counts.ranged.product),

@@ -28,13 +28,13 @@ module _ {input : List ℕ} {at : ℕ} {cs : List Command} {s : Seen} (so : Sofa
 pub returns-then-not-among : goal.returns-then-not-among
 returns-then-not-among c = record {
   head = tt;
-  reads = λ cs s so going d k m. undeclared so going d c.args.h.marks m c.state-at-x.result c.state-at-x.ensures c.in_ok-command.ensures c.if-not-among.ensures.1;
+  reads = λ cs s so going d k m. undeclared so going d c.args.h.marks m c.state_at-x.result c.state_at-x.ensures c.in_ok-command.ensures c.if-not-among.ensures.1;
 }
 
 pub returns-in-Some : goal.returns-in-Some
 returns-in-Some c =
-    let x = c.state-at-x.result in
-    let is = c.state-at-x.ensures in
+    let x = c.state_at-x.result in
+    let is = c.state_at-x.ensures in
     let there = c.in_ok-command.ensures in
     let told = c.in-Some.ensures in
     let marks : x.marks < 2 ^ c.args.h.marks = c.if-not-among.ensures.0 tt in
@@ -49,5 +49,5 @@ pub returns-in-None : goal.returns-in-None
 returns-in-None c = record {
   head = tt;
   reads = λ cs s so going d k m.
-      uncounted so going d c.args.h.marks m c.state-at-x.result c.state-at-x.ensures c.in_ok-command.ensures c.args.h.agents k (c.if-not-among.ensures.0 tt) c.in-None.ensures;
+      uncounted so going d c.args.h.marks m c.state_at-x.result c.state_at-x.ensures c.in_ok-command.ensures c.args.h.agents k (c.if-not-among.ensures.0 tt) c.in-None.ensures;
 }

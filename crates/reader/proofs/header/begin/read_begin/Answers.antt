@@ -13,15 +13,15 @@ pub returns-in_err-command : goal.returns-in_err-command
 returns-in_err-command c =
     at_exit _ _ c.from-residual.result _ c.from-residual.ensures.1 (command_refused (sofar_start c.args.input.now) 1 3 _ _ refl refl refl c.in_err-command.ensures)
 
-pub returns-then-not-in-range : goal.returns-then-not-in-range
-returns-then-not-in-range c =
+pub returns-then-not-in_range : goal.returns-then-not-in_range
+returns-then-not-in_range c =
     let input = c.args.input.now in
     let c1 = begin (get_or input 1 0) (get_or input 2 0) (get_or input 3 0) in
-    sofar_refused (sofar_start input) refl (Fails.breaks c1 (drop 4 input) tt (four input c.in_ok-command.ensures) refl c.if-not-in-range.ensures.1)
+    sofar_refused (sofar_start input) refl (Fails.breaks c1 (drop 4 input) tt (four input c.in_ok-command.ensures) refl c.if-not-in_range.ensures.1)
 
 pub returns : goal.returns
 returns c =
     let input = c.args.input.now in
     let there = c.in_ok-command.ensures in
-    let keeps = c.if-not-in-range.ensures.0 tt in
+    let keeps = c.if-not-in_range.ensures.0 tt in
     (keeps, sofar_more (sofar_start input) (begin (get_or input 1 0) (get_or input 2 0) (get_or input 3 0)) 4 tt refl keeps (four input there) refl (omega (arith, there.whole)))
