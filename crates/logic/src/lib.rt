@@ -1,4 +1,6 @@
 //! Questions of alternating-time temporal logic, and where they hold.
+#![tactic(auto)]
+
 mod answer;
 pub mod fixpoint;
 pub mod line;

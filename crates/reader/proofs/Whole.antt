@@ -1,5 +1,5 @@
 -- A file that was read to its end is the file of the model that its states spell.
-use Rattle.std.proofs.Common.{◌≡◌, ℕ, ◌+◌, ◌^◌, ◌<◌, cond, ltb, List, [], ◌∷◌, ◌++◌, length, get_or, drop, sym, refl, ap, ◌∙◌, subst, ap₂, inl, inr, append_assoc, arith, pow_mono}
+use Rattle.std.proofs.Common.{◌≡◌, ℕ, ◌^◌, ◌<◌, cond, ltb, List, [], ◌∷◌, ◌++◌, length, get_or, drop, sym, refl, ap, ◌∙◌, subst, ap₂, inl, inr, append_assoc, arith, pow_mono}
 use Rattle.std.specs.List.{flat_map}
 use Rattle.std.proofs.lemmas.Bool.{cases_lt, cond-true, cond-false, lt-ltb, le-ltb}
 use Rattle.model.specs.Model.{Model, Ranged, everyone, moves}
@@ -9,7 +9,7 @@ use Rattle.model.specs.declared.state.State.{State}
 use Rattle.model.proofs.Tabling.{states_ranged}
 use Rattle.legend.specs.Names.{Lawful}
 use Rattle.legend.proofs.Spelling.{same_bytes}
-use Rattle.file.specs.File.{Command, begin, finish, state, encode, upto, counts_at, file_of, outcomes}
+use Rattle.file.specs.File.{Command, begin, finish, state, encode, upto, file_of, outcomes}
 use Rattle.file.specs.Reading.{Counts, Fileable, Keeps, Leads, none, more, Seen, nothing}
 use Rattle.file.proofs.Once.{leads_append}
 use Rattle.file.proofs.Filing.{name_at, state_at, commands_of, file_commands, get_or-upto, naming, between, names_lead, states_lead, all_named}

@@ -1,4 +1,6 @@
 //! Reading model files.
+#![tactic(auto)]
+
 mod body;
 mod command;
 pub mod fault;

@@ -6,15 +6,14 @@ use Rattle.logic.specs.Logic.{Answer, Rule, said}
 use Rattle.logic.specs.Questions.{question, line_of, set_at, Tells, Accepted}
 use Rattle.logic.specs.declared.line.Line.TheVariants.{True}
 use Rattle.logic.proofs.Asking.{rule_at, tell_more, tell_front, answer_more}
-use Rattle.logic.proofs.answer.evaluate.Given as given
 use Rattle.logic.proofs.answer.evaluate.Goals as goal
 
 pub loop-i-init : goal.loop-i-init
 unfolding question
 loop-i-init g c = (refl, refl, λ p l. absurd (omega arith), λ s. (λ t. c.empty-answer.ensures s t, λ z. absurd z))
 
-pub slice-bounds-line_set-end : goal.slice-bounds-line_set-end
-slice-bounds-line_set-end g c = omega (arith, c.loop-i.invariant.0, c.in_ok-judge.ensures.sized.places, c.loop-i-test.true)
+pub slice_bounds-line_set-end : goal.slice_bounds-line_set-end
+slice_bounds-line_set-end g c = omega (arith, c.loop-i.invariant.0, c.in_ok-judge.ensures.sized.places, c.loop-i-test.true)
 
 pub line_set-answer-requires : goal.line_set-answer-requires
 line_set-answer-requires g c =

@@ -5,7 +5,7 @@ use Rattle.reader.proofs.command.command.Goals as goal
 pub returns-in_err-found : goal.returns-in_err-found
 returns-in_err-found c =
     let told = c.in_err-found.ensures in
-    at_exit _ _ c.from-residual.result _ c.from-residual.ensures.1
+    at_exit _ _ c.from_residual.result _ c.from_residual.ensures.1
     (told.1, λ s d z. none_there c.args.input.now c.args.place c.args.code c.args.operands told.0 _ told.2 s)
 
 pub returns-then-found-code : goal.returns-then-found-code

@@ -11,7 +11,7 @@ use Rattle.reader.proofs.Whole.{whole_file, whole_ranged}
 use Rattle.reader.proofs.model_file.read_whole.Goals as goal
 
 pub returns-in_err-h : goal.returns-in_err-h
-returns-in_err-h c = at_exit _ _ c.from-residual.result _ c.from-residual.ensures.1 (rejects c.in_err-h.ensures)
+returns-in_err-h c = at_exit _ _ c.from_residual.result _ c.from_residual.ensures.1 (rejects c.in_err-h.ensures)
 
 pub returns-in_err-legend : goal.returns-in_err-legend
 returns-in_err-legend c =

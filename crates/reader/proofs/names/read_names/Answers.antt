@@ -26,7 +26,7 @@ read_name-requires c = c.loop-i.invariant.0
 pub returns-in_err-read_name : goal.returns-in_err-read_name
 returns-in_err-read_name c k n so some =
     let inv = c.loop-i.invariant.1 k n so some in
-    at_exit _ _ c.from-residual.result _ c.from-residual.ensures.1
+    at_exit _ _ c.from_residual.result _ c.from_residual.ensures.1
     (c.in_err-read_name.ensures.reads _ _ inv.0 refl (name_due k n c.args.marks (names_of c.loop-i.legend) some (omega (arith, inv.1, c.loop-i-test.true))) refl inv.2)
 
 pub loop-i-preserved : goal.loop-i-preserved

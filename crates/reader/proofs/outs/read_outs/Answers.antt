@@ -13,13 +13,13 @@ loop-j-init c =
     (omega arith, omega (arith, c.requires.within), record { marks = refl; counts = refl; inside = λ i l. absurd (omega arith) }, λ cs s so n left states. outs_none _ _ cs s so)
 
 pub command-requires : goal.command-requires
-command-requires c = (omega (arith, c.loop-j.invariant.1), omega arith)
+command-requires c = record { within = omega (arith, c.loop-j.invariant.1); few = omega arith }
 
 pub returns-in_err-command : goal.returns-in_err-command
 returns-in_err-command c = record {
-  filled = at_exit_made _ c.from-residual.result _ c.from-residual.ensures.1;
+  filled = at_exit_made _ c.from_residual.result _ c.from_residual.ensures.1;
   reads = λ cs s so n left states.
-      at_exit _ _ c.from-residual.result _ c.from-residual.ensures.1
+      at_exit _ _ c.from_residual.result _ c.from_residual.ensures.1
       (command_refused (c.loop-j.invariant.3 cs s so n left states) 4 1 _ _ n.going (outs_due s n c.loop-j.j (omega (arith, c.loop-j-test.true))) refl c.in_err-command.ensures);
 }
 

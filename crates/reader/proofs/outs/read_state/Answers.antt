@@ -13,16 +13,16 @@ use Rattle.reader.proofs.outs.read_state.Goals as goal
 
 pub returns-in_err-head : goal.returns-in_err-head
 returns-in_err-head c = record {
-  kept = at_exit_made _ c.from-residual.result _ c.from-residual.ensures.1;
+  kept = at_exit_made _ c.from_residual.result _ c.from_residual.ensures.1;
   reads = λ cs s so n left states k m few.
-      at_exit _ _ c.from-residual.result _ c.from-residual.ensures.1
+      at_exit _ _ c.from_residual.result _ c.from_residual.ensures.1
       (c.in_err-head.ensures.reads cs s so n.going (due_state s n.going n.some n.all left states) k m);
 }
 
 pub read_outs-requires : goal.read_outs-requires
 read_outs-requires c =
     let head = c.in_ok-head.ensures.head in
-    (head.1, omega (arith, head.0.joint, head.0.counts.ranged.product))
+    record { within = head.1; few = omega (arith, head.0.joint, head.0.counts.ranged.product) }
 
 -- what the state's own command leaves to come
 module _ (h : Header) (head : Head) (of : HeadOf h.agents h.marks head) (s : Seen) (n : Naming s) where

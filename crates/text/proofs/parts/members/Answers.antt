@@ -15,7 +15,7 @@ use Rattle.text.proofs.Sights.{seen}
 use Rattle.text.proofs.parts.members.Goals as goal
 
 pub returns-in_err-read : goal.returns-in_err-read
-returns-in_err-read c = at_exit _ _ c.from-residual.result _ c.from-residual.ensures.1 (λ d.
+returns-in_err-read c = at_exit _ _ c.from_residual.result _ c.from_residual.ensures.1 (λ d.
     let V = terms_of c.args.terms.now in
     let e = c.in_err-read.ensures in
     astray _ [] (t_less ∷ []) refl e.0 refl t_greater (due-group V d) (only_group V d) (Miss.strange e.1))

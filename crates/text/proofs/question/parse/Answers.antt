@@ -7,7 +7,7 @@ use Rattle.text.proofs.question.parse.Goals as goal
 
 pub returns-in_err-whole : goal.returns-in_err-whole
 returns-in_err-whole c = record {
-  cases = at_exit _ _ c.from-residual.result _ c.from-residual.ensures.1
+  cases = at_exit _ _ c.from_residual.result _ c.from_residual.ensures.1
       (refuses _ c.in_err-whole.field-0.0.rule (omega arith) c.in_err-whole.ensures, c.clear.ensures.emptied);
   named = c.clear.ensures.named;
 }

@@ -7,7 +7,7 @@ use Rattle.text.proofs.Wholes.{in_state, after_state, whole_state}
 use Rattle.text.proofs.question.whole.Goals as goal
 
 pub returns-in_err-done : goal.returns-in_err-done
-returns-in_err-done c = at_exit _ _ c.from-residual.result _ c.from-residual.ensures.1 (in_state c.in_err-done.ensures)
+returns-in_err-done c = at_exit _ _ c.from_residual.result _ c.from_residual.ensures.1 (in_state c.in_err-done.ensures)
 
 pub returns-in_err-due : goal.returns-in_err-due
 returns-in_err-due c =

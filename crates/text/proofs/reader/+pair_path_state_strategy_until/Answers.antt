@@ -41,7 +41,7 @@ use Rattle.text.proofs.reader.+pair_path_state_strategy_until.Goals as goal
 pub pair-returns-in_err-left : goal.pair-returns-in_err-left
 pair-returns-in_err-left t c =
     let V = terms_of c.args.terms.now in
-    at_exit _ _ c.from-residual.result _ c.from-residual.ensures.1
+    at_exit _ _ c.from_residual.result _ c.from_residual.ensures.1
     (lift (frame_left V c.args.allow) c.in_err-left.ensures)
 
 pub pair-returns-in_err-op : goal.pair-returns-in_err-op
@@ -93,7 +93,7 @@ path-returns-in_err-begun t c =
     let V = terms_of c.args.terms.now in
     let A = who c.args.agents in
     let e = c.in_err-begun.ensures in
-    at_exit _ _ c.from-residual.result _ c.from-residual.ensures.1
+    at_exit _ _ c.from_residual.result _ c.from_residual.ensures.1
     (astray _ [] (group A []) (append-nil (group A [])) e.0 refl t_next (due_path V c.args.allow A c.requires.2) (only_path V c.args.allow A) (no_lead e.1))
 
 pub path-returns-in_err-part : goal.path-returns-in_err-part
@@ -133,7 +133,7 @@ state-returns-in_err-read t c =
     let d = c.args.allow - 1 in
     let deeper : suc d ≡ c.args.allow = omega arith in
     let e = c.in_err-read.ensures in
-    at_exit _ _ c.from-residual.result _ c.from-residual.ensures.1
+    at_exit _ _ c.from_residual.result _ c.from_residual.ensures.1
     (wrong_at (suc d) deeper (astray _ [] [] refl e.0 refl t_true (due_start V d) (only_start V d) (Miss.strange e.1)))
 
 pub state-returns-in_err-found : goal.state-returns-in_err-found
@@ -239,7 +239,7 @@ state-returns-in-default t c =
 
 pub strategy-returns-in_err-named : goal.strategy-returns-in_err-named
 strategy-returns-in_err-named t c =
-    at_exit _ _ c.from-residual.result _ c.from-residual.ensures.1
+    at_exit _ _ c.from_residual.result _ c.from_residual.ensures.1
     (c.in_err-named.ensures c.args.allow)
 
 pub strategy-returns : goal.strategy-returns
@@ -255,7 +255,7 @@ until-returns-in_err-left t c =
     let V = terms_of c.args.terms.now in
     let A = who c.args.agents in
     let d = c.args.allow in
-    at_exit _ _ c.from-residual.result _ c.from-residual.ensures.1
+    at_exit _ _ c.from_residual.result _ c.from_residual.ensures.1
     (lift (frame_first V d A c.requires.2) c.in_err-left.ensures)
 
 pub until-returns-in_err-then : goal.until-returns-in_err-then

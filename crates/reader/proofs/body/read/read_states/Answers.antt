@@ -11,9 +11,9 @@ use Rattle.reader.proofs.body.read.read_states.Goals as goal
 
 pub returns-in_err-head : goal.returns-in_err-head
 returns-in_err-head c = record {
-  kept = at_exit_made _ c.from-residual.result _ c.from-residual.ensures.1;
+  kept = at_exit_made _ c.from_residual.result _ c.from_residual.ensures.1;
   reads = λ cs names e some so.
-      at_exit _ _ c.from-residual.result _ c.from-residual.ensures.1
+      at_exit _ _ c.from_residual.result _ c.from_residual.ensures.1
       (c.in_err-head.ensures.reads _ _ (c.loop-s.invariant.4 cs names e some so) (body_naming _ _ _ names c.loop-s.s c.loop-s.body.total e some) refl c.loop-s-test.true refl refl refl);
 }
 

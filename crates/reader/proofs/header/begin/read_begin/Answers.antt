@@ -11,7 +11,7 @@ four input there = row input 0 4 (omega (arith, there.whole)) ∙ ap (λ (b : �
 
 pub returns-in_err-command : goal.returns-in_err-command
 returns-in_err-command c =
-    at_exit _ _ c.from-residual.result _ c.from-residual.ensures.1 (command_refused (sofar_start c.args.input.now) 1 3 _ _ refl refl refl c.in_err-command.ensures)
+    at_exit _ _ c.from_residual.result _ c.from_residual.ensures.1 (command_refused (sofar_start c.args.input.now) 1 3 _ _ refl refl refl c.in_err-command.ensures)
 
 pub returns-then-not-in_range : goal.returns-then-not-in_range
 returns-then-not-in_range c =
