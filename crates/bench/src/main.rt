@@ -1,4 +1,6 @@
 //! How long a question of 4,096 lines takes on models with 64 states, 6 agents and 64 joint moves.
+#![tactic(auto)]
+
 mod models;
 mod questions;
 

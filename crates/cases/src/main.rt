@@ -1,4 +1,5 @@
 //! Puts worked questions to a ring and to a table, and prints the states where each holds.
+#![tactic(auto)]
 
 mod files;
 mod put;

@@ -1,51 +1,15 @@
 -- Which tokens are due after others, and what it is where another stands there.
-use Rattle.std.proofs.Common.{◌≡◌, ℕ, zero, suc, ◌^◌, ◌<◌, ◌≤◌, ◌⊎◌, List, [], ◌∷◌, ◌++◌, sym, refl, ap, ◌∙◌, subst, inl, inr, append_assoc, append-nil, arith, pow_pos}
+use Rattle.std.proofs.Common.{◌≡◌, ℕ, zero, suc, ◌^◌, ◌<◌, ◌≤◌, List, [], ◌∷◌, ◌++◌, sym, refl, ap, ◌∙◌, append_assoc, arith, pow_pos}
 use Rattle.logic.specs.Logic.{Formula, verum, mark, neg, both, either, next, always, until}
 use Rattle.grammar.specs.declared.Joint.{Joint}
 use Rattle.grammar.specs.declared.Joint.TheVariants.{And, Or}
 use Rattle.grammar.specs.declared.Ahead.{Ahead}
 use Rattle.grammar.specs.declared.Ahead.TheVariants.{Next, Always}
-use Rattle.grammar.specs.Tokens.{
-  Tok,
-  t_true,
-  t_name,
-  t_agents,
-  t_not,
-  t_and,
-  t_or,
-  t_open,
-  t_close,
-  t_less,
-  t_greater,
-  t_next,
-  t_always,
-  t_until,
-  t_end,
-  t_gap,
-  Blank,
-  Run,
-  TokAt,
-  Strange,
-  Lexes,
-}
-use Rattle.grammar.specs.Grammar.{Vocabulary, Over, members, group, print, joined_by, joint_tok, ahead_by, ahead_tok, deepest, sentence, Due, Goes, Stuck, like}
+use Rattle.grammar.specs.Tokens.{Tok, t_true, t_name, t_agents, t_not, t_and, t_or, t_open, t_close, t_less, t_greater, t_next, t_always, t_until, t_end, t_gap, Blank, Run, TokAt, Lexes}
+use Rattle.grammar.specs.Grammar.{Vocabulary, Over, members, group, print, joined_by, joint_tok, ahead_tok, deepest, sentence, Due, Goes, Stuck, like}
 use Rattle.grammar.specs.Texts.{Fails}
 use Rattle.grammar.specs.Parts.{Wrong, Miss}
-use Rattle.grammar.proofs.Prints.{
-  tag,
-  rest_of,
-  head_of,
-  inv_open,
-  Path,
-  inv_less,
-  inv_path,
-  ahead_open,
-  joint_same,
-  group_more,
-  print_joined,
-  print_ahead,
-  print_free,
-}
+use Rattle.grammar.proofs.Prints.{tag, rest_of, head_of, inv_open, Path, inv_less, inv_path, ahead_open, group_more, print_joined, print_free}
 
 -- the only tokens that can come after ts are of a kind; it has a name where it has `true`, and no gap
 pub record Only (W : Formula → List Tok) (ts : List Tok) (Wanted : Tok → Type 0) : Type 0 where

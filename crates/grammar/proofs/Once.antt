@@ -25,9 +25,9 @@ use Rattle.grammar.specs.Tokens.{
 }
 use Rattle.grammar.specs.Grammar.{Vocabulary, Over, members, print, deepest, sentence, Due, Goes, Stuck, like}
 use Rattle.grammar.specs.Texts.{Fails, Refused, Spelled, Accepts, Rejects}
-use Rattle.grammar.proofs.Prints.{tag, rest_of, head_of, print_free}
+use Rattle.grammar.proofs.Prints.{tag, rest_of, print_free}
 use Rattle.grammar.proofs.Lexing.{run_unique, spells_real, tok_unique, strange_alone, Further, lexes_front}
-use Rattle.grammar.proofs.Single.{Apart, Real, real_left, lexes_real, print_one}
+use Rattle.grammar.proofs.Single.{Apart, real_left, lexes_real, print_one}
 
 -- a name or agents that the vocabulary has
 abbrev Spoken : Vocabulary → Tok → Type 0

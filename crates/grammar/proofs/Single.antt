@@ -1,11 +1,11 @@
 -- Tokens without a gap spell one formula at most.
-use Rattle.std.proofs.Common.{◌≡◌, ℕ, zero, suc, ◌^◌, ◌<◌, List, [], ◌∷◌, ◌++◌, sym, refl, ap, ◌∙◌, subst, append_assoc, append-nil}
+use Rattle.std.proofs.Common.{◌≡◌, ℕ, zero, suc, ◌^◌, ◌<◌, List, [], ◌∷◌, ◌++◌, sym, refl, ap, ◌∙◌, subst, append-nil}
 use Rattle.logic.specs.Logic.{Formula, verum, mark, neg, both, either, next, always, until}
 use Rattle.grammar.specs.declared.Joint.{Joint}
 use Rattle.grammar.specs.declared.Joint.TheVariants.{And, Or}
 use Rattle.grammar.specs.declared.Ahead.{Ahead}
 use Rattle.grammar.specs.declared.Ahead.TheVariants.{Next, Always}
-use Rattle.grammar.specs.Tokens.{Tok, t_true, t_name, t_open, t_close, t_greater, t_until, t_gap, Lexes}
+use Rattle.grammar.specs.Tokens.{Tok, t_open, t_close, t_until, t_gap, Lexes}
 use Rattle.grammar.specs.Grammar.{Vocabulary, Over, members, print, joined_by, joint_tok, ahead_by, ahead_tok}
 use Rattle.grammar.proofs.Prints.{
   rest_of,

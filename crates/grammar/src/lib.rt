@@ -1,4 +1,5 @@
 //! The grammar of question text: its operators here, definitions in specs/ and theorems in proofs/.
+#![tactic(auto)]
 
 /// What joins two states: `&` or `|`.
 #[derive(Clone, Copy)]

@@ -1,4 +1,6 @@
 //! What the programs share: a job comes from standard input or from a file, a listing goes to standard output.
+#![tactic(auto)]
+
 use anyhow::anyhow;
 use std::io::{Read, Write};
 use std::{env, fs, io};

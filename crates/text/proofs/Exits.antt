@@ -1,9 +1,9 @@
 -- How each way out of a reader ends.
-use Rattle.std.proofs.Common.{◌≡◌, ℕ, ◌+◌, ◌<◌, ◌≤◌, List, [], ◌∷◌, ◌++◌, length, get_or, sym, refl, ap, ◌∙◌, subst, inl, inr, arith}
+use Rattle.std.proofs.Common.{◌≡◌, ℕ, ◌<◌, ◌≤◌, List, [], ◌∷◌, ◌++◌, length, get_or, sym, refl, subst, inl, inr, arith}
 use Rattle.std.proofs.lemmas.Bool.{cases_lt}
 use Rattle.legend.specs.Names.{LetterOrDigit}
 use Rattle.logic.specs.Logic.{Formula}
-use Rattle.grammar.specs.Tokens.{Tok, t_end, Digit, Run, Spells, TokAt, Strange, Lexes}
+use Rattle.grammar.specs.Tokens.{Tok, t_end, Digit, Run, Spells, TokAt, Lexes}
 use Rattle.grammar.specs.Grammar.{Vocabulary, Due}
 use Rattle.grammar.specs.Parts.{Wrong, Miss}
 use Rattle.grammar.proofs.Dues.{Only, missed}

@@ -1,9 +1,9 @@
 -- The words of a legend's names.
-use Rattle.std.proofs.Common.{◌≡◌, ℕ, zero, suc, ◌-◌, ◌<◌, cond, eqb, List, [], ◌∷◌, ◌++◌, length, get_or, replicate, sym, refl, ap, ◌∙◌, subst, inl, inr, arith}
+use Rattle.std.proofs.Common.{◌≡◌, ℕ, zero, suc, ◌-◌, ◌<◌, eqb, List, [], ◌∷◌, ◌++◌, length, get_or, replicate, sym, refl, ap, ◌∙◌, inl, inr, arith}
 use mathlib.Core.Logic.{∥∥₁_elim}
 use native.Mathlib.Nat.{ℕ_set}
 use Rattle.std.proofs.lemmas.Bool.{cases_lt, cond-false, ne_eqb}
-use Rattle.legend.specs.Names.{LetterOrDigit, padded, Name, Lawful}
+use Rattle.legend.specs.Names.{LetterOrDigit, padded, Lawful}
 use Rattle.legend.specs.Legends.{names_of}
 use Rattle.legend.specs.declared.Legend.{Legend}
 use Rattle.grammar.specs.Grammar.{word_of, vocabulary}

@@ -1,5 +1,5 @@
 -- What operators do to vocabularies and lines, and small steps of the readers.
-use Rattle.std.proofs.Common.{◌≡◌, ℕ, suc, ◌^◌, ◌<◌, [], ◌∷◌, ◌++◌, sym, refl, ap, ◌∙◌, subst}
+use Rattle.std.proofs.Common.{◌≡◌, ℕ, ◌^◌, ◌<◌, ◌∷◌, sym, refl, subst}
 use mathlib.Core.List as L
 use Rattle.list.specs.declared.List.{List}
 use Rattle.logic.specs.Logic.{Formula}
@@ -11,7 +11,7 @@ use Rattle.grammar.specs.declared.Joint.TheVariants as joint
 use Rattle.grammar.specs.declared.Ahead.{Ahead}
 use Rattle.grammar.specs.declared.Ahead.TheVariants as ahead
 use Rattle.grammar.specs.Tokens.{Tok, Lexes}
-use Rattle.grammar.specs.Grammar.{Vocabulary, Over, print, joined_by, ahead_by, ahead_tok}
+use Rattle.grammar.specs.Grammar.{Vocabulary, Over, print, joined_by, ahead_by}
 use Rattle.grammar.specs.Parts.{Wrong, Miss}
 use Rattle.grammar.proofs.Dues.{Leads}
 use Rattle.text.specs.declared.parts.Lead.{Lead}

@@ -1,5 +1,5 @@
 -- How a state is put together from parts that were read.
-use Rattle.std.proofs.Common.{◌≡◌, ℕ, suc, ◌+◌, ◌<◌, ◌≤◌, [], ◌∷◌, ◌++◌, length, sym, refl, ap, ◌∙◌, subst, append_assoc, arith, length-take-le}
+use Rattle.std.proofs.Common.{◌≡◌, ℕ, suc, ◌+◌, ◌≤◌, [], ◌∷◌, ◌++◌, length, sym, refl, ap, ◌∙◌, subst, append_assoc, arith, length-take-le}
 use mathlib.Core.List as L
 use Rattle.list.specs.declared.List.{List}
 use Rattle.list.specs.Lists.{items, Extends}
@@ -11,10 +11,9 @@ use Rattle.logic.specs.declared.line.Line.{Line}
 use Rattle.logic.proofs.Asking.{length-question, question_push}
 use Rattle.grammar.specs.Tokens.{Tok, t_close, t_end, TokAt, Lexes}
 use Rattle.grammar.specs.Grammar.{Vocabulary, Over, print}
-use Rattle.grammar.specs.Parts.{Ends}
 use Rattle.grammar.proofs.Frames.{lexes_more}
 use Rattle.text.specs.declared.parts.Done.{Done}
-use Rattle.text.specs.Readings.{Spent, Stated, Parted}
+use Rattle.text.specs.Readings.{Stated, Parted}
 use Rattle.text.proofs.Exits.{tok_some}
 
 length-items : (s : List Line) → length (question (items s)) ≡ s.count

@@ -1,5 +1,5 @@
 -- A whole text is accepted or refused, for one reason.
-use Rattle.std.proofs.Common.{◌≡◌, ℕ, ◌≤◌, [], ◌∷◌, ◌++◌, length, sym, refl, ap, ◌∙◌, subst, arith}
+use Rattle.std.proofs.Common.{◌≡◌, ℕ, ◌≤◌, [], ◌∷◌, length, refl, arith}
 use mathlib.Core.List as L
 use Rattle.list.specs.declared.List.{List}
 use Rattle.legend.specs.Legends.{names_of}

@@ -32,7 +32,7 @@ fn sign(b: u8) -> Option<Token<'static>>
 fn word(letters: &[u8]) -> Token
     ensures { Word letters.now (shown result) }
 {
-    if letters == b"true" {
+    if letters == b"true".as_slice() {
         Token::True
     } else {
         Token::Name(letters)

@@ -1,4 +1,6 @@
 //! Question text: from its bytes to the lines of a question.
+#![tactic(auto)]
+
 mod class;
 pub mod fault;
 mod lexer;

@@ -21,7 +21,7 @@ use logic::line::Line;
 use sets::coalition::Coalition;
 
 /// Reads a state, which may stand so many levels deep, and adds its lines.
-#[cycle(pair_path_state_strategy_until)]
+#[cycle(reading)]
 pub(crate) fn state(
     text: &[u8],
     from: usize,
@@ -63,7 +63,7 @@ pub(crate) fn state(
 }
 
 /// Reads what follows `(` in a state: two states with `&` or `|` between them, and `)`.
-#[cycle(pair_path_state_strategy_until)]
+#[cycle(reading)]
 fn pair(
     text: &[u8],
     from: usize,
@@ -86,7 +86,7 @@ fn pair(
 }
 
 /// Reads what follows `<`: agents, `>` and a path.
-#[cycle(pair_path_state_strategy_until)]
+#[cycle(reading)]
 fn strategy(
     text: &[u8],
     from: usize,
@@ -103,7 +103,7 @@ fn strategy(
 }
 
 /// Reads a path of some agents: `X` state, `G` state, or `(` state `U` state `)`.
-#[cycle(pair_path_state_strategy_until)]
+#[cycle(reading)]
 fn path(
     text: &[u8],
     from: usize,
@@ -131,7 +131,7 @@ fn path(
 }
 
 /// Reads what follows `(` in a path: two states with `U` between them, and `)`.
-#[cycle(pair_path_state_strategy_until)]
+#[cycle(reading)]
 fn until(
     text: &[u8],
     from: usize,

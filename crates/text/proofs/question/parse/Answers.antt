@@ -1,4 +1,4 @@
-use Rattle.std.proofs.Common.{length, sym, refl, ap, ◌∙◌, arith}
+use Rattle.std.proofs.Common.{length, refl, ap, ◌∙◌, arith}
 use Rattle.list.specs.Lists.{items}
 use Rattle.logic.proofs.Asking.{length-question}
 use Rattle.list.proofs.Exits.{at_exit}

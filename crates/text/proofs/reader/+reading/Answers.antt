@@ -36,7 +36,8 @@ use Rattle.text.proofs.Exits.{ruled, astray, told, tok_is, tok_within, lex_one}
 use Rattle.text.proofs.Operators.{over_joined, over_ahead, flat_joined, flat_ahead, no_lead, lexed, stated_at, wrong_at, parted_told}
 use Rattle.text.proofs.Sights.{seen}
 use Rattle.text.proofs.Steps.{parted_before, leaf, stated, one, two}
-use Rattle.text.proofs.reader.+pair_path_state_strategy_until.Goals as goal
+use Rattle.text.proofs.reader.+reading.Goals as goal
+use Rattle.text.proofs.reader.+reading.Goals.{state-After-undue}
 
 pub pair-returns-in_err-left : goal.pair-returns-in_err-left
 pair-returns-in_err-left t c =
@@ -94,25 +95,25 @@ path-returns-in_err-begun t c =
     let A = who c.args.agents in
     let e = c.in_err-begun.ensures in
     at_exit _ _ c.from_residual.result _ c.from_residual.ensures.1
-    (astray _ [] (group A []) (append-nil (group A [])) e.0 refl t_next (due_path V c.args.allow A c.requires.2) (only_path V c.args.allow A) (no_lead e.1))
+    (astray _ [] (group A []) (append-nil (group A [])) e.0 refl t_next (due_path V c.args.allow A c.requires.members) (only_path V c.args.allow A) (no_lead e.1))
 
-pub path-returns-in_err-part : goal.path-returns-in_err-part
-path-returns-in_err-part t c =
+pub path-returns-in_err-part-in-Onward : goal.path-returns-in_err-part-in-Onward
+path-returns-in_err-part-in-Onward t c =
     let V = terms_of c.args.terms.now in
     let A = who c.args.agents in
     let h = c.in-Onward.ahead in
     let l = subst (λ (x : Lead). Lexes c.args.text.now c.args.from (lead_tok x ∷ []) c.in_ok-begun.begun.next) c.in-Onward.is c.in_ok-begun.ensures.2 in
-    at_exit _ _ c.from_residual-in_err-part.result _ c.from_residual-in_err-part.ensures.1
-    (wrong_before c.args.from (group A []) (ahead_tok h ∷ []) l (told (sym (group_more A [] (ahead_tok h ∷ []))) (lift (frame_ahead V c.args.allow A c.requires.2 h) c.in_err-part.ensures)))
+    at_exit _ _ c.from_residual-in_err-part-in-Onward.result _ c.from_residual-in_err-part-in-Onward.ensures.1
+    (wrong_before c.args.from (group A []) (ahead_tok h ∷ []) l (told (sym (group_more A [] (ahead_tok h ∷ []))) (lift (frame_ahead V c.args.allow A c.requires.members h) c.in_err-part-in-Onward.ensures)))
 
-pub path-returns-in_ok-part : goal.path-returns-in_ok-part
-path-returns-in_ok-part t c =
+pub path-returns-in_ok-part-in-Onward : goal.path-returns-in_ok-part-in-Onward
+path-returns-in_ok-part-in-Onward t c =
     let V = terms_of c.args.terms.now in
     let A = who c.args.agents in
     let h = c.in-Onward.ahead in
     let l = subst (λ (x : Lead). Lexes c.args.text.now c.args.from (lead_tok x ∷ []) c.in_ok-begun.begun.next) c.in-Onward.is c.in_ok-begun.ensures.2 in
     parted_before c.args.from (group A []) (ahead_tok h ∷ []) c.in_ok-begun.ensures.1 l (parted_told (sym (group_more A [] (ahead_tok h ∷ [])))
-    (one (group A (ahead_tok h ∷ [])) (ahead_by h A) (ahead_line h A) (over_ahead V h A c.requires.2) (λ f. print_ahead V.word c.args.allow h A f ∙ sym (group_more A (ahead_tok h ∷ []) _)) (flat_ahead h A) c.in_ok-part.ensures c.path_line.ensures))
+    (one (group A (ahead_tok h ∷ [])) (ahead_by h A) (ahead_line h A) (over_ahead V h A c.requires.members) (λ f. print_ahead V.word c.args.allow h A f ∙ sym (group_more A (ahead_tok h ∷ []) _)) (flat_ahead h A) c.in_ok-part-in-Onward.ensures c.path_line.ensures))
 
 pub path-returns-in-Until : goal.path-returns-in-Until
 path-returns-in-Until t c =
@@ -136,40 +137,40 @@ state-returns-in_err-read t c =
     at_exit _ _ c.from_residual.result _ c.from_residual.ensures.1
     (wrong_at (suc d) deeper (astray _ [] [] refl e.0 refl t_true (due_start V d) (only_start V d) (Miss.strange e.1)))
 
-pub state-returns-in_err-found : goal.state-returns-in_err-found
-state-returns-in_err-found t c =
+pub state-returns-in_err-found-in-Name : goal.state-returns-in_err-found-in-Name
+state-returns-in_err-found-in-Name t c =
     let V = terms_of c.args.terms.now in
     let d = c.args.allow - 1 in
     let deeper : suc d ≡ c.args.allow = omega arith in
     let at = tok_is c.in_ok-read.ensures c.in-Name.is in
-    let e = c.in_err-found.ensures in
-    at_exit _ _ c.from_residual-in_err-found.result _ c.from_residual-in_err-found.ensures.1
+    let e = c.in_err-found-in-Name.ensures in
+    at_exit _ _ c.from_residual-in_err-found-in-Name.result _ c.from_residual-in_err-found-in-Name.ensures.1
     (wrong_at (suc d) deeper (ruled _ rule.Name e.0 e.1 (no_mark d _ _ at.0 e.2)))
 
-pub state-returns-in_err-part : goal.state-returns-in_err-part
-state-returns-in_err-part t c =
+pub state-returns-in_err-part-in-Not : goal.state-returns-in_err-part-in-Not
+state-returns-in_err-part-in-Not t c =
     let V = terms_of c.args.terms.now in
     let d = c.args.allow - 1 in
     let deeper : suc d ≡ c.args.allow = omega arith in
     let at = tok_is c.in_ok-read.ensures c.in-Not.is in
-    at_exit _ _ c.from_residual-in_err-part.result _ c.from_residual-in_err-part.ensures.1
-    (wrong_at (suc d) deeper (wrong_before c.args.from [] (t_not ∷ []) (lex_one at.0) (lift (frame_not V d) c.in_err-part.ensures)))
+    at_exit _ _ c.from_residual-in_err-part-in-Not.result _ c.from_residual-in_err-part-in-Not.ensures.1
+    (wrong_at (suc d) deeper (wrong_before c.args.from [] (t_not ∷ []) (lex_one at.0) (lift (frame_not V d) c.in_err-part-in-Not.ensures)))
 
-pub state-returns-in_err-made : goal.state-returns-in_err-made
-state-returns-in_err-made t c =
+pub state-returns-in_err-made-in-Open : goal.state-returns-in_err-made-in-Open
+state-returns-in_err-made-in-Open t c =
     let d = c.args.allow - 1 in
     let deeper : suc d ≡ c.args.allow = omega arith in
     let at = tok_is c.in_ok-read.ensures c.in-Open.is in
-    at_exit _ _ c.from_residual-in_err-made.result _ c.from_residual-in_err-made.ensures.1
-    (wrong_at (suc d) deeper (wrong_before c.args.from [] (t_open ∷ []) (lex_one at.0) c.in_err-made.ensures))
+    at_exit _ _ c.from_residual-in_err-made-in-Open.result _ c.from_residual-in_err-made-in-Open.ensures.1
+    (wrong_at (suc d) deeper (wrong_before c.args.from [] (t_open ∷ []) (lex_one at.0) c.in_err-made-in-Open.ensures))
 
-pub state-returns-in_err-made-2 : goal.state-returns-in_err-made-2
-state-returns-in_err-made-2 t c =
+pub state-returns-in_err-made-in-Less : goal.state-returns-in_err-made-in-Less
+state-returns-in_err-made-in-Less t c =
     let d = c.args.allow - 1 in
     let deeper : suc d ≡ c.args.allow = omega arith in
     let at = tok_is c.in_ok-read.ensures c.in-Less.is in
-    at_exit _ _ c.from_residual-in_err-made-2.result _ c.from_residual-in_err-made-2.ensures.1
-    (wrong_at (suc d) deeper (wrong_before c.args.from [] (t_less ∷ []) (lex_one at.0) c.in_err-made-2.ensures))
+    at_exit _ _ c.from_residual-in_err-made-in-Less.result _ c.from_residual-in_err-made-in-Less.ensures.1
+    (wrong_at (suc d) deeper (wrong_before c.args.from [] (t_less ∷ []) (lex_one at.0) c.in_err-made-in-Less.ensures))
 
 pub state-returns-in-True : goal.state-returns-in-True
 state-returns-in-True t c =
@@ -181,56 +182,56 @@ state-returns-in-True t c =
     (leaf verum t_true tt refl refl (tok_within at.0).1)
     p.next p.line p.added)
 
-pub state-returns-in_ok-found : goal.state-returns-in_ok-found
-state-returns-in_ok-found t c =
-    let m = c.in_ok-found.ensures in
+pub state-returns-in_ok-found-in-Name : goal.state-returns-in_ok-found-in-Name
+state-returns-in_ok-found-in-Name t c =
+    let m = c.in_ok-found-in-Name.ensures in
     let d = c.args.allow - 1 in
     let deeper : suc d ≡ c.args.allow = omega arith in
     let at = tok_is c.in_ok-read.ensures c.in-Name.is in
     let p = c.put-in-Name.ensures in
     stated_at deeper (stated c.put-in-Name.result at.0 (λ e. omega (arith, ap tag e))
-    (leaf (mark c.in_ok-found.found) _ m.0 (ap (λ (w : List ℕ). t_name w ∷ []) m.1) refl (tok_within at.0).1)
+    (leaf (mark c.in_ok-found-in-Name.found) _ m.0 (ap (λ (w : List ℕ). t_name w ∷ []) m.1) refl (tok_within at.0).1)
     p.next p.line p.added)
 
-pub state-returns-in_ok-part : goal.state-returns-in_ok-part
-state-returns-in_ok-part t c =
+pub state-returns-in_ok-part-in-Not : goal.state-returns-in_ok-part-in-Not
+state-returns-in_ok-part-in-Not t c =
     let d = c.args.allow - 1 in
     let deeper : suc d ≡ c.args.allow = omega arith in
     let at = tok_is c.in_ok-read.ensures c.in-Not.is in
     let p = c.put-in-Not.ensures in
     stated_at deeper (stated c.put-in-Not.result at.0 (λ e. omega (arith, ap tag e))
-    (one (t_not ∷ []) neg logic.Not (λ f o. o) (λ f. refl) (λ f q. refl) c.in_ok-part.ensures refl)
+    (one (t_not ∷ []) neg logic.Not (λ f o. o) (λ f. refl) (λ f q. refl) c.in_ok-part-in-Not.ensures refl)
     p.next p.line p.added)
 
-pub state-returns-in_ok-made : goal.state-returns-in_ok-made
-state-returns-in_ok-made t c =
+pub state-returns-in_ok-made-in-Open : goal.state-returns-in_ok-made-in-Open
+state-returns-in_ok-made-in-Open t c =
     let d = c.args.allow - 1 in
     let deeper : suc d ≡ c.args.allow = omega arith in
     let at = tok_is c.in_ok-read.ensures c.in-Open.is in
     let p = c.put-in-Open.ensures in
     stated_at deeper (stated c.put-in-Open.result at.0 (λ e. omega (arith, ap tag e))
-    c.in_ok-made.ensures
+    c.in_ok-made-in-Open.ensures
     p.next p.line p.added)
 
-pub state-returns-in_ok-made-2 : goal.state-returns-in_ok-made-2
-state-returns-in_ok-made-2 t c =
+pub state-returns-in_ok-made-in-Less : goal.state-returns-in_ok-made-in-Less
+state-returns-in_ok-made-in-Less t c =
     let d = c.args.allow - 1 in
     let deeper : suc d ≡ c.args.allow = omega arith in
     let at = tok_is c.in_ok-read.ensures c.in-Less.is in
     let p = c.put-in-Less.ensures in
     stated_at deeper (stated c.put-in-Less.result at.0 (λ e. omega (arith, ap tag e))
-    c.in_ok-made-2.ensures
+    c.in_ok-made-in-Less.ensures
     p.next p.line p.added)
 
-starts-not : (t : ℕ) (c : goal.state-After-undue t) (k : Tok) → shown c.in_ok-read.read.token ≡ k → Starts k → ⊥
-starts-not t c k e (Starts.true i) = c.in-default.not-True (seen _ (e ∙ i))
-starts-not t c k e (Starts.name w i) = let h = seen _ (e ∙ i) in c.in-default.not-Name h.0 h.1
-starts-not t c k e (Starts.not i) = c.in-default.not-Not (seen _ (e ∙ i))
-starts-not t c k e (Starts.opens i) = c.in-default.not-Open (seen _ (e ∙ i))
-starts-not t c k e (Starts.less i) = c.in-default.not-Less (seen _ (e ∙ i))
+starts-not : (t : ℕ) (c : state-After-undue t) (k : Tok) → shown c.in_ok-read.read.token ≡ k → Starts k → ⊥
+starts-not t c k e (Starts.true i) = c.in_default.not-True (seen _ (e ∙ i))
+starts-not t c k e (Starts.name w i) = let h = seen _ (e ∙ i) in c.in_default.not-Name h.0 h.1
+starts-not t c k e (Starts.not i) = c.in_default.not-Not (seen _ (e ∙ i))
+starts-not t c k e (Starts.opens i) = c.in_default.not-Open (seen _ (e ∙ i))
+starts-not t c k e (Starts.less i) = c.in_default.not-Less (seen _ (e ∙ i))
 
-pub state-returns-in-default : goal.state-returns-in-default
-state-returns-in-default t c =
+pub state-returns-in_default : goal.state-returns-in_default
+state-returns-in_default t c =
     let V = terms_of c.args.terms.now in
     let d = c.args.allow - 1 in
     let deeper : suc d ≡ c.args.allow = omega arith in
@@ -256,7 +257,7 @@ until-returns-in_err-left t c =
     let A = who c.args.agents in
     let d = c.args.allow in
     at_exit _ _ c.from_residual.result _ c.from_residual.ensures.1
-    (lift (frame_first V d A c.requires.2) c.in_err-left.ensures)
+    (lift (frame_first V d A c.requires.members) c.in_err-left.ensures)
 
 pub until-returns-in_err-then : goal.until-returns-in_err-then
 until-returns-in_err-then t c =
@@ -267,7 +268,7 @@ until-returns-in_err-then t c =
     let f = h.formula in
     let e = c.in_err-then.ensures in
     at_exit _ _ c.from_residual-in_err-then.result _ c.from_residual-in_err-then.ensures.1
-    (astray _ (print V.word d f) _ (group_more A (t_open ∷ []) (print V.word d f)) e.0 (lexed h) t_until (due_until V d A f c.requires.2 h.ends.over) (only_until V d A f) e.1)
+    (astray _ (print V.word d f) _ (group_more A (t_open ∷ []) (print V.word d f)) e.0 (lexed h) t_until (due_until V d A f c.requires.members h.ends.over) (only_until V d A f) e.1)
 
 pub until-returns-in_err-right : goal.until-returns-in_err-right
 until-returns-in_err-right t c =
@@ -278,7 +279,7 @@ until-returns-in_err-right t c =
     let f = h.formula in
     at_exit _ _ c.from_residual-in_err-right.result _ c.from_residual-in_err-right.ensures.1
     (wrong_before c.args.from (group A (t_open ∷ [])) (print V.word d f ++ (t_until ∷ [])) (lexes_more _ _ _ _ (print V.word d f) (t_until ∷ []) (lexed h) c.in_ok-then.ensures.2)
-    (told (sym (group_more A (t_open ∷ []) (print V.word d f ++ (t_until ∷ [])))) (lift (frame_second V d A c.requires.2 f h.ends.over) c.in_err-right.ensures)))
+    (told (sym (group_more A (t_open ∷ []) (print V.word d f ++ (t_until ∷ [])))) (lift (frame_second V d A c.requires.members f h.ends.over) c.in_err-right.ensures)))
 
 pub until-returns-in_err-next : goal.until-returns-in_err-next
 until-returns-in_err-next t c =
@@ -293,7 +294,7 @@ until-returns-in_err-next t c =
     at_exit _ _ c.from_residual-in_err-next.result _ c.from_residual-in_err-next.ensures.1
     (astray _ (print V.word d f ++ (t_until ∷ print V.word d g)) _ (group_more A (t_open ∷ []) (print V.word d f ++ (t_until ∷ print V.word d g))) e.0
     (lexes_more _ _ _ _ (print V.word d f) _ (lexed h) (lexes_more _ _ c.in_ok-then.then _ (t_until ∷ []) (print V.word d g) c.in_ok-then.ensures.2 (lexed k)))
-    t_close (due_last V d A f g c.requires.2 h.ends.over k.ends.over) (only_last V d A f g) e.1)
+    t_close (due_last V d A f g c.requires.members h.ends.over k.ends.over) (only_last V d A f g) e.1)
 
 pub until-returns : goal.until-returns
 until-returns t c =
@@ -302,5 +303,5 @@ until-returns t c =
     let d = c.args.allow in
     let op = c.in_ok-then.ensures in
     let end = c.in_ok-next.ensures in
-    two c.in_ok-next.next (group A (t_open ∷ [])) t_until (until A) (logic.Until A) (λ f g a b. (c.requires.2, a, b)) (λ f g. sym (group_more A (t_open ∷ []) _)) (λ f g q. refl)
+    two c.in_ok-next.next (group A (t_open ∷ [])) t_until (until A) (logic.Until A) (λ f g a b. (c.requires.members, a, b)) (λ f g. sym (group_more A (t_open ∷ []) _)) (λ f g q. refl)
     c.in_ok-left.ensures op.1 op.2 c.in_ok-right.ensures end.1 end.2 end.0 refl

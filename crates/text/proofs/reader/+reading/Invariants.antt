@@ -1,5 +1,5 @@
 use Rattle.std.proofs.Common.{◌+◌, ◌*◌}
-use Rattle.text.proofs.reader.+pair_path_state_strategy_until.Given as goal
+use Rattle.text.proofs.reader.+reading.Given as goal
 
 abbrev pub decreases-pair : goal.decreases-pair
 decreases-pair l = 4 * l.allow + 1
