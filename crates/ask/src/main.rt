@@ -1,4 +1,6 @@
 //! Reads a job, a model file and then question text, and prints where the question holds.
+#![tactic(auto)]
+
 use jobs::{read_job, show};
 use list::List;
 use report::ask;

@@ -1,4 +1,6 @@
 //! Examples of what the library answers, refusals among them: each is proved to be safe, and run.
+#![tactic(auto)]
+
 #[cfg(test)]
 mod files;
 #[cfg(test)]

@@ -1,4 +1,6 @@
 //! Reads a table of question texts, and prints what each is read as: its lines, or its refusal and place.
+#![tactic(auto)]
+
 mod row;
 
 use crate::row::{Row, row_of};

@@ -1,4 +1,4 @@
-use Rattle.std.proofs.Common.{◌≡◌, ℕ, sym, ap, arith}
+use Rattle.std.proofs.Common.{◌≡◌, sym, ap, arith}
 use Rattle.sets.specs.Sets.{limit, member}
 use Rattle.list.proofs.Joins.{puts_room, puts_more, puts_same}
 use Rattle.file.specs.File.{upto}
