@@ -1,4 +1,4 @@
-//! A row of the table: a number of places, a space, and a text in which `$` stands for a line end and `~` for a tab.
+//! A row of the table: a number of places, a space, and a text in which `$` stands for a line end, `~` for a tab and `^` for a carriage return.
 use std::alloc::{AllocError, Global};
 
 #[derive(Drop)]
@@ -23,6 +23,7 @@ pub(crate) fn row_of(heap: Global, line: &[u8]) -> Result<Row, AllocError> {
             text.push(match *b {
                 b'$' => b'\n',
                 b'~' => b'\t',
+                b'^' => b'\r',
                 other => other,
             })?;
         }
