@@ -20,10 +20,10 @@ pub record Copied (input before after : List ℕ) (len : ℕ) : Type 0 where
   pub rest : drop len after ≡ drop len before
 
 -- the file of a model and its names now stands at the front of the bytes, those past it are as before, and it gives both back
-pub record Restored (M : Model) (names : List (List ℕ)) (before after : List ℕ) (back : Model) (backNames : List (List ℕ)) : Type 0 where
+pub record Restored (M : Model) (names : List (List ℕ)) (before after : List ℕ) (back : Model) (back_names : List (List ℕ)) : Type 0 where
   pub written : writing.Written M names before after (length (file_of M names))
   pub same : Same M back
-  pub named : backNames ≡ names
+  pub named : back_names ≡ names
 
 -- a file that can't be read, or has more bytes than there are
 abbrev pub Uncopied : List ℕ → ℕ → CopyFault → Type 0

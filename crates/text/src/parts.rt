@@ -4,7 +4,7 @@ ghost use Rattle.sets.specs.Sets.{who};
 ghost use Rattle.list.specs.Lists.{room, Extends};
 ghost use Rattle.logic.specs.Questions.{line_of};
 ghost use Rattle.grammar.specs.Tokens.{t_less, t_greater, Lexes};
-ghost use Rattle.grammar.specs.Grammar.{members as membersTok, print, joint_tok};
+ghost use Rattle.grammar.specs.Grammar.{members as members_of, print, joint_tok};
 ghost use Rattle.grammar.specs.Parts.{Wrong, Miss};
 ghost use Rattle.text.specs.declared.fault.TextRule.TheVariants as rule;
 ghost use Rattle.text.specs.Faults.{rule_number};
@@ -182,7 +182,7 @@ pub(crate) fn path_lead(text: &[u8], from: usize) -> Result<Led, TextFault>
 /// What follows `<`: agents or none, and `>`.
 pub(crate) fn members(text: &[u8], from: usize, terms: &Terms) -> Result<Group, TextFault>
     requires { from ≤ length text.now }
-    ensures { MatchResult result (λ g. (g.next ≤ length text.now) × (from ≤ g.next) × (who g.members < 2 ^ (terms_of terms.now).agents) × Lexes text.now from (membersTok (who g.members) ++ (t_greater ∷ [])) g.next) (λ f. (d : ℕ) → Wrong (terms_of terms.now) (print (terms_of terms.now).word (suc d)) text.now (t_less ∷ []) from (rule_number f.rule) f.place) }
+    ensures { MatchResult result (λ g. (g.next ≤ length text.now) × (from ≤ g.next) × (who g.members < 2 ^ (terms_of terms.now).agents) × Lexes text.now from (members_of (who g.members) ++ (t_greater ∷ [])) g.next) (λ f. (d : ℕ) → Wrong (terms_of terms.now) (print (terms_of terms.now).word (suc d)) text.now (t_less ∷ []) from (rule_number f.rule) f.place) }
 {
     let read = scan(text, from)?;
     match read.token {
