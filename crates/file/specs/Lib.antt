@@ -1,4 +1,5 @@
 pub mod File
+pub mod Kinds
 pub mod Puts
 pub mod Reading
 pub mod Writing

@@ -1,5 +1,6 @@
 //! The model file.
 #![tactic(auto)]
 
+pub mod kind;
 mod put;
 pub mod write;

@@ -3,6 +3,8 @@
 
 ghost use Rattle.std.specs.Prelude.{◌≤◌, length};
 
+use thiserror::Error;
+
 mod methods;
 
 /// A list over borrowed places: its items are the first `count` of them.
@@ -14,5 +16,6 @@ pub struct List<'a, T> {
 }
 
 /// The refusal of an item where every place is taken.
-#[derive(Clone, Copy, PartialEq, Eq, Debug)]
+#[derive(Clone, Copy, PartialEq, Eq, Debug, Error)]
+#[error("every place of the list is taken")]
 pub struct Full;

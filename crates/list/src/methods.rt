@@ -3,12 +3,12 @@ ghost use Rattle.std.specs.Prelude.{◌≡◌, ◌<◌, ◌≤◌, [], ◌∷◌
 ghost use Rattle.list.specs.Lists.{full_number, items, room, Emptied, Extends, Kept, Refilled};
 
 use super::{Full, List};
+use refusal::Numbered;
 
-impl Full {
-    /// The refusal's number.
-    pub fn number(self) -> u8
-        ensures { result ≡ full_number }
-    {
+impl Numbered for Full {
+    ghost number_of = { λ _. full_number };
+
+    fn number(self) -> u8 {
         51
     }
 }

@@ -1,0 +1,39 @@
+//! Refusals: each reason to refuse has a number, and many have a place.
+#![tactic(auto)]
+
+ghost use Rattle.std.specs.Prelude.{◌≡◌, ℕ};
+
+use std::error::Error;
+use std::fmt;
+
+/// A reason to refuse, with the number by which users know it.
+pub trait Numbered: Copy {
+    ghost number_of: { Self → ℕ };
+
+    /// The refusal's number.
+    fn number(self) -> u8
+        ensures { result ≡ number_of self };
+}
+
+/// The rule that an input breaks, and the place at which that is found.
+#[derive(Clone, Copy, PartialEq, Eq, Debug)]
+pub struct Fault<R> {
+    pub rule: R,
+    pub place: usize,
+}
+
+impl<R: Numbered> Numbered for Fault<R> {
+    ghost number_of = { λ fault. R.number_of fault.rule };
+
+    fn number(self) -> u8 {
+        self.rule.number()
+    }
+}
+
+impl<R: fmt::Display> fmt::Display for Fault<R> {
+    fn fmt<W: fmt::Write>(&self, f: &mut fmt::Formatter<W>) -> fmt::Result {
+        write!(f, "{}, at byte {}", self.rule, self.place)
+    }
+}
+
+impl<R: fmt::Debug + fmt::Display + Drop> Error for Fault<R> {}
