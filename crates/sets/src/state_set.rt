@@ -1,6 +1,8 @@
 //! Sets of states, by their numbers.
-ghost use Rattle.std.specs.Prelude.{◌≡◌, ℕ, ◌<◌, T, ◌⊎◌, ◌↔◌, MatchOption};
+ghost use Rattle.std.specs.Prelude.{◌≡◌, ℕ, ◌<◌, true, false, T, ◌⊎◌, ◌↔◌, MatchOption};
 ghost use Rattle.sets.specs.Sets.{bit, limit, member, Lowest};
+
+use crate::bits::is_set;
 
 /// A set of states: state `s` is in it where bit `s` of the word is set.
 #[derive(Clone, Copy, PartialEq, Eq, Debug)]
@@ -8,22 +10,25 @@ pub struct StateSet {
     bits: u64,
 }
 
-impl StateSet {
+impl From<u64> for StateSet {
+    ghost from_gives = { λ word result. (s : ℕ) → T (member result s) ↔ ((s < limit) × T (bit word s)) };
+
     /// The set of the states whose bits are set.
-    pub fn from_word(word: u64) -> StateSet
-        ensures { (s : ℕ) → T (member result s) ↔ ((s < limit) × T (bit word s)) }
-    {
+    fn from(word: u64) -> StateSet {
         StateSet { bits: word }
     }
+}
+
+impl From<StateSet> for u64 {
+    ghost from_gives = { λ set result. (s : ℕ) → T (bit result s) ↔ T (member set s) };
 
     /// The word whose bits are the set's states.
-    pub fn word(self) -> u64
-        ensures { (s : ℕ) → T (bit result s) ↔ T (member self s) }
-    {
-        let word = self.bits;
-        word
+    fn from(set: StateSet) -> u64 {
+        set.bits
     }
+}
 
+impl StateSet {
     /// The set that holds nothing.
     pub fn empty() -> StateSet
         ensures { (s : ℕ) → T (member result s) → ⊥ }
@@ -57,7 +62,7 @@ impl StateSet {
     pub fn contains(self, s: u8) -> bool
         ensures { result ≡ member self s }
     {
-        s < 64 && (self.bits >> s) & 1 == 1
+        is_set(self.bits, s)
     }
 
     /// Adds `s`, if it is below the limit.
@@ -91,6 +96,21 @@ impl StateSet {
         StateSet { bits }
     }
 
+    /// Those of its states that pass the test.
+    pub fn filter<F: Fn(u8) -> bool>(self, test: F) -> StateSet
+        requires { F.IsAlwaysCallable test }
+        ensures kept { (s : ℕ) → T (member result s) → T (member self s) × F.post test s true }
+        ensures left { (s : ℕ) → T (member self s) → (T (member result s) → ⊥) → F.post test s false }
+    {
+        let mut kept = StateSet::empty();
+        for s in 0..64 {
+            if self.contains(s) && test(s) {
+                kept.insert(s);
+            }
+        }
+        kept
+    }
+
     /// Whether it holds nothing.
     pub fn is_empty(self) -> bool
         ensures { T result ↔ ((s : ℕ) → T (member self s) → ⊥) }
@@ -109,11 +129,6 @@ impl StateSet {
     pub fn lowest(self) -> Option<u8>
         ensures { MatchOption result ((s : ℕ) → T (member self s) → ⊥) (λ l. Lowest (member self) l) }
     {
-        for s in 0..64 {
-            if self.contains(s) {
-                return Some(s);
-            }
-        }
-        None
+        (0..64).find(|s| self.contains(*s))
     }
 }

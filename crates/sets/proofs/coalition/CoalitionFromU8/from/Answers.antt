@@ -1,0 +1,7 @@
+use Rattle.std.proofs.Common.{refl}
+use Rattle.sets.specs.Sets.{who}
+use Rattle.sets.proofs.coalition.CoalitionFromU8.from.Goals as goal
+
+pub returns : goal.returns
+unfolding who
+returns c = refl
