@@ -8,6 +8,7 @@ use thiserror::Error;
 mod methods;
 
 /// A list over borrowed places: its items are the first `count` of them.
+// kept: the library has no heap, so the places are the caller's and the count stands beside them.
 #[derive(Drop)]
 pub struct List<'a, T> {
     places: &'a mut [T],

@@ -13,14 +13,7 @@ impl Numbered for Full {
     }
 }
 
-/// What stands at a place.
-fn item<T: Copy>(places: &[T], i: usize) -> T
-    requires { i < length places.now }
-    ensures { result ≡ slice_index_or places.now i result }
-{
-    places[i]
-}
-
+// kept: the clauses `named` speak of a list before and after, which no field or invariant of one list can say.
 impl<'a, T: Copy> List<'a, T> {
     /// The empty list over these places, which stay as they are.
     pub fn empty(places: &'a mut [T]) -> List<'a, T>
@@ -64,11 +57,7 @@ impl<'a, T: Copy> List<'a, T> {
     pub fn at(&self, i: usize) -> Option<T>
         ensures { MatchOption result (length (items self.now) ≤ i) (λ x. (i < length (items self.now)) × (x ≡ slice_index_or (items self.now) i x)) }
     {
-        if i < self.count {
-            Some(item(self.places, i))
-        } else {
-            None
-        }
+        self.items().get(i).copied()
     }
 
     /// Adds an item after the others, where a place is left; else the list and every place stay as they are.
@@ -93,9 +82,9 @@ impl<'a, T: Copy> List<'a, T> {
         if self.size() - self.count < xs.len() {
             return Err(Full);
         }
-        for x in xs {
-            let _ = self.add(*x);
-        }
+        let end = self.count + xs.len();
+        self.places[self.count..end].copy_from_slice(xs);
+        self.count = end;
         Ok(())
     }
 
