@@ -1,7 +1,7 @@
 -- The kinds of models: the ring line, the table, and the veil over any model.
-use Rattle.std.specs.Prelude.{◌≡◌, ℕ, ◌+◌, ◌-◌, ◌%◌, ◌^◌, ◌<◌, ◌≤◌, cond, not, ◌&&◌, List, [], get_or, ◌==◌, bit_and, slice_index, slice_index_or}
+use Rattle.std.specs.Prelude.{ℕ, ◌+◌, ◌-◌, ◌%◌, ◌^◌, ◌<◌, ◌≤◌, cond, not, ◌&&◌, List, [], ◌==◌, bit_and, slice_index, slice_index_or}
 use Rattle.sets.specs.Sets.{Set}
-use Rattle.model.specs.Model.{Marks, Model, Ranged, most, everyone, moves, joint, choice}
+use Rattle.model.specs.Model.{Marks, Model, most, everyone, moves, choice}
 use Rattle.model.specs.declared.state.State.{State}
 
 -- the number of the refusal of a ring with no positions or with too many
@@ -45,19 +45,11 @@ abbrev pub nowhere : State
 nowhere = record { marks = 0; counts = []; outcomes = [] }
 
 -- the model that is written out state by state
-abbrev pub table_of : ℕ → ℕ → List State → Model
-table_of n k states = record {
-  n = n;
-  marks = λ s. (get_or states s nowhere).marks;
-  k = k;
-  d = λ s. counts_at (slice_index_or states s nowhere);
-  out = λ s j. slice_index (get_or states s nowhere).outcomes j;
-}
+abbrev pub written : ℕ → ℕ → (ℕ → State) → Model
+written n k at = record { n = n; marks = λ s. (at s).marks; k = k; d = λ s. counts_at (at s); out = λ s j. slice_index (at s).outcomes j }
 
--- what a table keeps: the ranges, and beside each state how many joint moves it has
-pub record Tabled (n k : ℕ) (states : List State) (joints : List ℕ) : Type 0 where
-  pub ranged : Ranged (table_of n k states)
-  pub counted : (s : ℕ) → s < n → slice_index joints s ≡ joint (table_of n k states) s
+abbrev pub table_of : ℕ → ℕ → List State → Model
+table_of n k states = written n k (λ s. slice_index_or states s nowhere)
 
 -- one state, one agent with one choice, no marks
 abbrev pub blank : Model

@@ -1,3 +1,4 @@
 pub mod Model
 pub mod Kinds
-pub mod Untruncate
+pub mod Rows
+pub mod Tables

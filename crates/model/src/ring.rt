@@ -4,6 +4,8 @@ ghost use Rattle.sets.specs.Sets.{limit};
 
 mod play;
 
+use thiserror::Error;
+
 /// A ring of 1 to 64 positions.
 #[derive(Clone, Copy)]
 pub struct Ring {
@@ -13,5 +15,6 @@ pub struct Ring {
 }
 
 /// The refusal of a ring with no positions or with too many.
-#[derive(Clone, Copy, PartialEq, Eq, Debug)]
+#[derive(Clone, Copy, PartialEq, Eq, Debug, Error)]
+#[error("a ring has 1 to 64 positions")]
 pub struct NoRing;

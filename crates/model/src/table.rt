@@ -1,17 +1,18 @@
 //! The table model: states, each written out.
-ghost use Rattle.model.specs.Kinds.{Tabled};
-
-use crate::state::State;
+ghost use Rattle.model.specs.Rows.{Tabled};
 
 mod build;
 mod read;
+mod row;
 
-/// So many states and agents, what each state has, and how many joint moves there are; what stands past the states stands for nothing.
+use crate::table::row::Row;
+
+/// So many states and agents, and what each state has; what stands past the states stands for nothing.
+// kept: without a heap the rows are a fixed array, and how many of them are states stands beside it.
 #[derive(Drop)]
 pub struct Table {
     states: u8,
     agents: u8,
-    rows: [State; 64],
-    joints: [u8; 64],
-    ghost kept: { ∥ Tabled states agents rows joints ∥₁ },
+    rows: [Row; 64],
+    ghost kept: { Tabled states agents rows },
 }

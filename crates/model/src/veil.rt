@@ -34,10 +34,7 @@ impl<G: Marked> Marked for Veil<G> {
     }
 
     fn marks(&self, s: u8) -> Option<u16> {
-        match self.under.marks(s) {
-            Some(m) => Some(m & self.mask),
-            None => None,
-        }
+        self.under.marks(s).map(|marks| marks & self.mask)
     }
 }
 

@@ -3,16 +3,16 @@ ghost use Rattle.std.specs.Prelude.{◌≡◌, ◌<◌, ◌≤◌, MatchResult};
 ghost use Rattle.sets.specs.Sets.{limit};
 ghost use Rattle.model.specs.Model.{marks_of};
 ghost use Rattle.model.specs.Kinds.{ring, ring_number};
-ghost use Rattle.std.proofs.Common.{rules, arith};
+ghost use Rattle.std.proofs.Common.{rules};
 
 use super::{NoRing, Ring};
 use crate::game::{Game, Marked};
+use refusal::Numbered;
 
-impl NoRing {
-    /// The refusal's number.
-    pub fn number(self) -> u8
-        ensures { result ≡ ring_number }
-    {
+impl Numbered for NoRing {
+    ghost number_of = { λ _. ring_number };
+
+    fn number(self) -> u8 {
         38
     }
 }
@@ -22,7 +22,7 @@ impl Ring {
     pub fn new(positions: u8) -> Result<Ring, NoRing>
         ensures { MatchResult result (λ x. x.positions ≡ positions) (λ _. (1 ≤ positions) × (positions ≤ limit) → ⊥) }
     {
-        if positions >= 1 && positions <= 64 {
+        if (1..=64).contains(&positions) {
             Ok(Ring { positions })
         } else {
             Err(NoRing)
@@ -33,7 +33,7 @@ impl Ring {
 impl Marked for Ring {
     ghost marked = { λ r. marks_of (ring r.positions) };
 
-    ghost in_range = { first_of (Prim.search rules, Prim.grind (arith, Self.row.coded.inj)) };
+    ghost in_range = { Prim.search rules };
 
     fn states(&self) -> u8 {
         self.positions
@@ -53,9 +53,9 @@ impl Marked for Ring {
 impl Game for Ring {
     ghost model = { λ r. ring r.positions };
 
-    ghost tied = { first_of (Prim.search rules, Prim.grind (arith, Self.row.coded.inj)) };
+    ghost tied = { Prim.search rules };
 
-    ghost ranged = { first_of (Prim.search rules, Prim.grind (arith, Self.row.coded.inj)) };
+    ghost ranged = { Prim.search rules };
 
     fn agents(&self) -> u8 {
         2

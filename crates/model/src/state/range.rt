@@ -10,16 +10,12 @@ impl State {
     pub fn joint_moves(self, agents: u8) -> Option<u8>
         ensures { SomeIff result (CountsRanged agents (counts_at self)) (moves everyone (counts_at self) agents) }
     {
-        if agents > 6 {
-            return None;
-        }
         let mut joint = 1;
-        for a in 0..agents {
-            let d = self.counts[a as usize];
-            if d < 1 || d > 64 / joint {
+        for d in self.counts.get(0..agents as usize)? {
+            if *d < 1 || *d > 64 / joint {
                 return None;
             }
-            joint *= d;
+            joint *= *d;
         }
         Some(joint)
     }
@@ -29,11 +25,7 @@ impl State {
         ensures { SomeIff result (StateRanged states agents self) (moves everyone (counts_at self) agents) }
     {
         let joint = self.joint_moves(agents)?;
-        for j in 0..joint {
-            if self.outcomes[j as usize] >= states {
-                return None;
-            }
-        }
-        Some(joint)
+        let outcomes = &self.outcomes[0..joint as usize];
+        outcomes.iter().all(|t| *t < states).then_some(joint)
     }
 }

@@ -2,14 +2,16 @@
 ghost use Rattle.std.specs.Prelude.{length, MatchOption};
 ghost use Rattle.model.specs.Model.{Ranged, Same};
 ghost use Rattle.model.specs.Kinds.{table_of, blank};
+ghost use Rattle.model.specs.Tables.{model_of};
 
 use super::Table;
+use super::row::Row;
 use crate::state::State;
 
 impl Table {
     /// One state, one agent with one choice, no marks.
     pub fn blank() -> Table
-        ensures { Same blank (table_of result.states result.agents result.rows) }
+        ensures { Same blank (model_of result) }
     {
         let state = State {
             marks: 0,
@@ -19,31 +21,34 @@ impl Table {
         Table {
             states: 1,
             agents: 1,
-            rows: [state; 64],
-            joints: [1; 64],
+            rows: [Row { state, joint: 1 }; 64],
         }
     }
 
     /// The model of these states, for so many agents, or none exactly where they break the ranges.
     pub fn from_states(agents: u8, states: &[State]) -> Option<Table>
-        ensures { MatchOption result (Ranged (table_of (length states.now) agents states.now) → ⊥) (λ t. Ranged (table_of (length states.now) agents states.now) × Same (table_of (length states.now) agents states.now) (table_of t.states t.agents t.rows)) }
+        ensures { MatchOption result (Ranged (table_of (length states.now) agents states.now) → ⊥) (λ t. Ranged (table_of (length states.now) agents states.now) × Same (table_of (length states.now) agents states.now) (model_of t)) }
     {
-        if agents < 1 || agents > 6 || states.len() < 1 || states.len() > 64 {
+        if agents < 1 || agents > 6 || states.is_empty() || states.len() > 64 {
             return None;
         }
         let n = states.len() as u8;
-        let mut rows = [states[0]; 64];
-        let mut joints = [1; 64];
-        for s in 0..n {
-            let state = states[s as usize];
-            joints[s as usize] = state.moves_among(n, agents)?;
-            rows[s as usize] = state;
+        let unused = Row {
+            state: states[0],
+            joint: 1,
+        };
+        let mut rows = [unused; 64];
+        for (s, state) in states.iter().enumerate() {
+            let joint = state.moves_among(n, agents)?;
+            rows[s] = Row {
+                state: *state,
+                joint,
+            };
         }
         Some(Table {
             states: n,
             agents,
             rows,
-            joints,
         })
     }
 }

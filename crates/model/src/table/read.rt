@@ -1,17 +1,15 @@
 //! The table as a model.
 ghost use Rattle.model.specs.Model.{marks_of};
-ghost use Rattle.model.specs.Kinds.{table_of};
-ghost use Rattle.model.specs.Untruncate.{tabled_out};
-ghost use Rattle.std.proofs.Common.{rules, arith};
+ghost use Rattle.model.specs.Tables.{model_of};
+ghost use Rattle.std.proofs.Common.{rules};
 
 use super::Table;
 use crate::game::{Game, Marked};
-use crate::state::State;
 
 impl Marked for Table {
-    ghost marked = { λ t. marks_of (table_of t.states t.agents t.rows) };
+    ghost marked = { λ t. marks_of (model_of t) };
 
-    ghost in_range = { λ x. let r = (tabled_out x.kept).ranged in record { states = r.states; sixteen = r.sixteen } };
+    ghost in_range = { λ x. record { states = x.kept.ranged.states; sixteen = x.kept.ranged.sixteen } };
 
     fn states(&self) -> u8 {
         self.states
@@ -19,7 +17,7 @@ impl Marked for Table {
 
     fn marks(&self, s: u8) -> Option<u16> {
         if s < self.states {
-            Some(self.rows[s as usize].marks)
+            Some(self.rows[s as usize].state.marks)
         } else {
             None
         }
@@ -27,11 +25,11 @@ impl Marked for Table {
 }
 
 impl Game for Table {
-    ghost model = { λ t. table_of t.states t.agents t.rows };
+    ghost model = { model_of };
 
-    ghost tied = { first_of (Prim.search rules, Prim.grind (arith, Self.row.coded.inj)) };
+    ghost tied = { Prim.search rules };
 
-    ghost ranged = { λ x. (tabled_out x.kept).ranged };
+    ghost ranged = { λ x. x.kept.ranged };
 
     fn agents(&self) -> u8 {
         self.agents
@@ -39,15 +37,15 @@ impl Game for Table {
 
     fn choices(&self, s: u8, a: u8) -> Option<u8> {
         if s < self.states && a < self.agents {
-            Some(self.rows[s as usize].counts[a as usize])
+            Some(self.rows[s as usize].state.counts[a as usize])
         } else {
             None
         }
     }
 
     fn out(&self, s: u8, j: u8) -> Option<u8> {
-        if s < self.states && j < self.joints[s as usize] {
-            Some(self.rows[s as usize].outcomes[j as usize])
+        if s < self.states && j < self.rows[s as usize].joint {
+            Some(self.rows[s as usize].state.outcomes[j as usize])
         } else {
             None
         }
