@@ -1,3 +1,1 @@
-pub mod Collecting
-mod Leading
 mod Repeating

@@ -1,5 +1,5 @@
 //! Where a coalition can lead, whatever the others choose.
-ghost use Rattle.std.specs.Prelude.{ℕ, ◌<◌, ◌≤◌, T, ◌↔◌};
+ghost use Rattle.std.specs.Prelude.{◌≡◌, ℕ, ◌<◌, ◌≤◌, T, ◌↔◌};
 ghost use Rattle.sets.specs.Sets.{limit, member, who};
 ghost use Rattle.model.specs.Model.{Can, Numbering, joint};
 ghost use Rattle.ability.specs.Ability.{Leads};
@@ -13,19 +13,18 @@ use sets::state_set::StateSet;
 /// The own choices such that every joint move agreeing with one of them leads from a state into `x`.
 fn leading<G: Game>(g: &G, s: u8, x: StateSet, parts: &Parts) -> StateSet
     requires state { s < (G.Game.model g.now).n }
+    requires moves { parts.now.width ≡ joint (G.Game.model g.now) s }
     requires few { parts.now.count ≤ limit }
     ensures { (c : ℕ) → T (member result c) ↔ Leads (G.Game.model g.now) s (member x) parts.now (joint (G.Game.model g.now) s) c }
 {
     let mut free = StateSet::below(parts.count);
-    let mut j = 0;
-    while let Some(t) = g.out(s, j) {
-        if !x.contains(t) {
-            free = free.difference(StateSet::single(parts.own[j as usize]));
+    for (j, own) in parts.own[0..parts.width as usize].iter().enumerate() {
+        if !g.out(s, j as u8).is_some_and(|t| x.contains(t)) {
+            free = free.difference(StateSet::single(*own));
             if free.is_empty() {
                 return free;
             }
         }
-        j += 1;
     }
     free
 }
@@ -46,11 +45,5 @@ pub fn can<G: Game>(g: &G, a: Coalition, s: u8, x: StateSet) -> bool
 pub fn able<G: Game>(g: &G, a: Coalition, among: StateSet, x: StateSet) -> StateSet
     ensures { (s : ℕ) → T (member result s) ↔ (T (member among s) × Can (G.Game.model g.now) (who a) s (λ t. T (member x t))) }
 {
-    let mut found = StateSet::empty();
-    for s in 0..g.states() {
-        if among.contains(s) && can(g, a, s, x) {
-            found.insert(s);
-        }
-    }
-    found
+    among.filter(|s| can(g, a, s, x))
 }

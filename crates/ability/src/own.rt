@@ -15,10 +15,7 @@ fn agent_choices<G: Game>(g: &G, s: u8, i: u8) -> u8
     requires agent { i < (G.Game.model g.now).k }
     ensures { result ≡ (G.Game.model g.now).d s i }
 {
-    match g.choices(s, i) {
-        Some(d) => d,
-        None => unreachable(),
-    }
+    g.choices(s, i).unwrap()
 }
 
 /// The own choices of a coalition at a state that exists, and which of them each joint move agrees with.
@@ -56,8 +53,6 @@ pub fn own_choice<G: Game>(g: &G, a: Coalition, s: u8, j: u8) -> Option<u8>
     if !a.is_among(g.agents()) {
         return None;
     }
-    match g.out(s, j) {
-        Some(_) => Some(own_parts(g, a, s).own[j as usize]),
-        None => None,
-    }
+    g.out(s, j)?;
+    Some(own_parts(g, a, s).own[j as usize])
 }
