@@ -1,8 +1,9 @@
 //! Questions: lists of lines, each pointing only at earlier lines.
 use sets::coalition::Coalition;
+use thiserror::Error;
 
 /// One line of a question; its pointers are numbers of earlier lines.
-#[derive(Clone, Copy)]
+#[derive(Clone, Copy, PartialEq, Eq, Debug)]
 pub enum Line {
     True,
     Mark(u8),
@@ -15,12 +16,13 @@ pub enum Line {
 }
 
 /// Why a question is refused.
-#[derive(Clone, Copy, PartialEq, Eq, Debug)]
+#[derive(Clone, Copy, PartialEq, Eq, Debug, Error)]
 pub enum QuestionFault {
-    /// No line, or more than 4,096.
+    #[error("a question has 1 to 4,096 lines")]
     Length,
-    /// Fewer sets than lines.
+    #[error("there are fewer sets than lines")]
     Sets,
     /// The first line with a wrong pointer, mark or coalition.
+    #[error("line {0} has a wrong pointer, mark or coalition")]
     Line(u16),
 }

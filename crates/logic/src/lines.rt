@@ -8,29 +8,21 @@ use crate::fixpoint::{always, until};
 use crate::line::Line;
 use ability::able;
 use model::game::{Game, Marked};
+use sets::bits::is_set;
 use sets::state_set::StateSet;
 
 /// Whether the state exists and has the mark.
 fn has_mark<G: Marked>(g: &G, s: u8, m: u8) -> bool
     ensures { T result ↔ ((s < (G.Marked.marked g.now).n) × T (bit ((G.Marked.marked g.now).marks s) m)) }
 {
-    match g.marks(s) {
-        Some(marks) => m < 16 && (marks >> m) & 1 == 1,
-        None => false,
-    }
+    g.marks(s).is_some_and(|marks| is_set(u64::from(marks), m))
 }
 
 /// The states with a mark.
 pub fn with_mark<G: Marked>(g: &G, m: u8) -> StateSet
     ensures { (s : ℕ) → T (member result s) ↔ ((s < (G.Marked.marked g.now).n) × T (bit ((G.Marked.marked g.now).marks s) m)) }
 {
-    let mut found = StateSet::empty();
-    for s in 0..g.states() {
-        if has_mark(g, s, m) {
-            found.insert(s);
-        }
-    }
-    found
+    StateSet::below(g.states()).filter(|s| has_mark(g, s, m))
 }
 
 /// The set of an earlier line.

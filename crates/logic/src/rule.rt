@@ -4,12 +4,12 @@ ghost use Rattle.logic.specs.Logic.{Rule};
 ghost use Rattle.logic.specs.Questions.{line_of, fault_number, Accepted, Refused};
 
 use crate::line::{Line, QuestionFault};
+use refusal::Numbered;
 
-impl QuestionFault {
-    /// The refusal's number.
-    pub fn number(self) -> u8
-        ensures { result ≡ fault_number self }
-    {
+impl Numbered for QuestionFault {
+    ghost number_of = { fault_number };
+
+    fn number(self) -> u8 {
         match self {
             QuestionFault::Length => 21,
             QuestionFault::Sets => 22,
@@ -38,7 +38,7 @@ fn keeps_rule(agents: u8, i: usize, line: Line) -> bool
 pub(crate) fn judge(agents: u8, lines: &[Line], room: usize) -> Result<(), QuestionFault>
     ensures { MatchResult result (λ _. Accepted agents lines.now room) (λ f. Refused agents lines.now room f) }
 {
-    if lines.len() < 1 || lines.len() > 4096 {
+    if lines.is_empty() || lines.len() > 4096 {
         return Err(QuestionFault::Length);
     }
     if room < lines.len() {

@@ -1,9 +1,7 @@
-use Rattle.std.proofs.Common.{◌≡◌, ◌+◌, ◌-◌, ◌<◌, ◌≤◌, T, ◌↔◌, length, get_or, take, drop, sym, refl, ap, ◌∙◌, subst, arith, length-set, length-take-le, drop-drop, drop-set-lt}
+use Rattle.std.proofs.Common.{◌≡◌, ◌+◌, ◌-◌, ◌<◌, ◌≤◌, length, get_or, take, drop, sym, refl, ap, ◌∙◌, subst, arith, length-set, length-take-le, drop-drop, drop-set-lt}
 use native.Mathlib.Nat.{sub-zero}
-use Rattle.std.proofs.lemmas.List.{take_all}
-use Rattle.sets.specs.Sets.{member}
-use Rattle.logic.specs.Logic.{Answer, Rule, said}
-use Rattle.logic.specs.Questions.{question, line_of, set_at, Tells, Accepted}
+use Rattle.logic.specs.Logic.{Rule, said}
+use Rattle.logic.specs.Questions.{question, line_of}
 use Rattle.logic.specs.declared.line.Line.TheVariants.{True}
 use Rattle.logic.proofs.Asking.{rule_at, tell_more, tell_front, answer_more}
 use Rattle.logic.proofs.answer.evaluate.Goals as goal
@@ -11,9 +9,6 @@ use Rattle.logic.proofs.answer.evaluate.Goals as goal
 pub loop-i-init : goal.loop-i-init
 unfolding question
 loop-i-init g c = (refl, refl, λ p l. absurd (omega arith), λ s. (λ t. c.empty-answer.ensures s t, λ z. absurd z))
-
-pub slice_bounds-line_set-end : goal.slice_bounds-line_set-end
-slice_bounds-line_set-end g c = omega (arith, c.loop-i.invariant.0, c.in_ok-judge.ensures.sized.places, c.loop-i-test.true)
 
 pub line_set-answer-requires : goal.line_set-answer-requires
 line_set-answer-requires g c =
@@ -24,9 +19,6 @@ line_set-answer-requires g c =
     let here : Rule c.agents.result i l = rule_at c.args.lines.now i c.loop-i-test.true c.agents.result accepted.ruled in
     let many : i ≡ length (take (i - 0) c.loop-i.sets) = omega (arith, length-take-le (i - 0) c.loop-i.sets fits) in
     subst (λ n. Rule (g.G.Game.model c.args.g.now).k n l) many (subst (λ k. Rule k i l) c.agents.ensures here)
-
-pub bounds-sets-i : goal.bounds-sets-i
-bounds-sets-i g c = omega (arith, c.loop-i.invariant.0, c.in_ok-judge.ensures.sized.places, c.loop-i-test.true)
 
 pub loop-i-preserved : goal.loop-i-preserved
 loop-i-preserved g c =
@@ -42,21 +34,4 @@ loop-i-preserved g c =
       drop-set-lt _ _ _ _ past ∙ sym (drop-drop 1 i c.loop-i.sets) ∙ ap (drop 1) inv.1 ∙ drop-drop 1 i c.args.sets.now,
       tell_more lines i c.loop-i-test.true M c.loop-i.sets c.line_set-answer.result within inv.2 here,
       answer_more lines i c.loop-i-test.true M c.line_set-answer.result here,
-    )
-
-pub returns : goal.returns
-returns g c =
-    let lines = c.args.lines.now in
-    let inv = c.loop-i.invariant in
-    let accepted = c.in_ok-judge.ensures in
-    let done : c.loop-i.i ≡ length lines = omega (arith, c.loop-i-test.false, c.loop-i.auto.i-end) in
-    let M = g.G.Game.model c.args.g.now in
-    let whole = take_all c.loop-i.i lines c.loop-i-test.false in (
-      subst (λ k. Accepted k lines (length c.args.sets.now)) c.agents.ensures accepted,
-      record {
-        answer = λ s. subst (λ xs. T (member c.loop-i.answer s) ↔ Answer M (question xs) s) whole (inv.3 s);
-        each = λ p h. subst (λ xs. Tells M (set_at c.loop-i.sets p) (said (question xs) p)) whole (inv.2 p (omega arith));
-        size = inv.0;
-        rest = rw done at inv.1;
-      },
     )

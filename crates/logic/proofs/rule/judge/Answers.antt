@@ -1,6 +1,4 @@
-use Rattle.std.proofs.Common.{subst}
-use Rattle.std.proofs.lemmas.List.{take_all}
-use Rattle.logic.specs.Logic.{Ruled}
+use Rattle.std.proofs.Common.{rules}
 use Rattle.logic.specs.Questions.{question}
 use Rattle.logic.proofs.Asking.{ruled_more}
 use Rattle.logic.proofs.rule.judge.Goals as goal
@@ -13,7 +11,7 @@ pub returns-then-not-keeps_rule : goal.returns-then-not-keeps_rule
 returns-then-not-keeps_rule c =
     let lines = c.args.lines.now in
     let i = c.loop-i.i in (
-      record { some = c.if-lines-lt1.false; few = c.if-lines-gt4096.false; places = c.if-room-lines.false },
+      record { some = search rules; few = c.if-lines-gt4096.false; places = c.if-room-lines.false },
       c.loop-i-test.true,
       c.loop-i.invariant,
       λ r. c.if-not-keeps_rule.ensures.1 ((ruled_more lines i c.loop-i-test.true c.args.agents).0 r).0,
@@ -21,9 +19,3 @@ returns-then-not-keeps_rule c =
 
 pub loop-i-preserved : goal.loop-i-preserved
 loop-i-preserved c = (ruled_more c.args.lines.now c.loop-i.i c.loop-i-test.true c.args.agents).1 (c.if-not-keeps_rule.ensures.0 tt, c.loop-i.invariant)
-
-pub returns : goal.returns
-returns c = record {
-  sized = record { some = c.if-lines-lt1.false; few = c.if-lines-gt4096.false; places = c.if-room-lines.false };
-  ruled = subst (λ xs. Ruled c.args.agents (question xs)) (take_all c.loop-i.i c.args.lines.now c.loop-i-test.false) c.loop-i.invariant;
-}
