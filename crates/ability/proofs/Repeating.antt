@@ -1,9 +1,9 @@
 -- Joint moves of one more agent: those of the agents before, over and over.
 use Rattle.std.proofs.Common.{◌≡◌, ℕ, ◌+◌, ◌-◌, ◌*◌, ◌/◌, ◌%◌, ◌<◌, ◌≤◌, cond, List, get_or, sym, refl, ap, ◌∙◌, mod-eq_of_lt, add-one, arith}
 use native.Mathlib.Nat.{add-mul-div_left, add-mul-mod_self_left, div-eq_of_lt}
-use Rattle.std.proofs.lemmas.Nat.{div_below, mod_below, mul-add-lt, mul-le}
+use Rattle.std.proofs.lemmas.Nat.{div_below, mod_below}
 use Rattle.sets.specs.Sets.{Set, limit}
-use Rattle.model.specs.Model.{Model, Ranged, everyone, moves, own, choice, most}
+use Rattle.model.specs.Model.{Model, Ranged, everyone, moves, own, choice}
 use Rattle.model.proofs.Moving.{moves_fit, moves_le, moves_pos, moves_with, own_lt}
 use Rattle.model.proofs.Numbers.{own_periodic}
 use Rattle.ability.specs.Ability.{PartsOf, Extends, Small}
@@ -19,13 +19,6 @@ repeat_more xs w step j p h =
     let q : j / w ≡ (j - w) / w + 1 = sym (ap (λ (x : ℕ). x / w) e) ∙ add-mul-div_left (j - w) 1 p in
     let r : j % w ≡ (j - w) % w = sym (ap (λ (x : ℕ). x % w) e) ∙ add-mul-mod_self_left (j - w) w 1 in
     rw (q, r) (omega arith)
-
--- what is added to an own choice stays below the count
-pub repeat_fits : (p : Parts) (d : ℕ) → Small p d → (j : ℕ) → j < p.width * d → get_or p.own (j % p.width) 0 + j / p.width * p.count < most
-repeat_fits p d s j h =
-    let less = s.own (j % p.width) (mod_below j p.width s.some.0) in
-    let turn = div_below j p.width d s.some.0 (omega arith) in
-    omega (arith, mul-add-lt (j / p.width) p.count (get_or p.own (j % p.width) 0) d turn less, mul-le p.count d p.width d s.counts (omega arith), s.few)
 
 -- one agent more
 pub parts_more : (A : Set) (d : ℕ → ℕ) (i : ℕ) (p q : Parts) → ((b : ℕ) → b < i + 1 → 1 ≤ d b) → PartsOf A d i p → Extends p q (d i) (A i) → PartsOf A d (i + 1) q

@@ -40,11 +40,6 @@ pub extended : {T : Type 0} {s t : List T} {xs : L.List T} (r : Result Unit Full
 extended (Ok u) h c = c.1
 extended (Err f) h c = absurd (omega arith)
 
-pub refilled_all : {T : Type 0} {s m : List T} (t : List T) (xs : L.List T) (r : Result Unit Full) → Emptied s m → length xs ≤ room m → MatchResult r (λ _. (length xs ≤ room m) × Extends m t xs) (λ _. (room m < length xs) × Kept m t) →
-    MatchResult r (λ _. Refilled s t xs) (λ _. (length s.places.now < length xs) × Kept s t)
-refilled_all t xs (Ok u) e h c = refilled e c.1
-refilled_all t xs (Err f) e h c = absurd (omega arith)
-
 pub puts_none : {T : Type 0} (s : List T) → Puts s s []
 puts_none s = record { extends = extends_none s; named = refl }
 

@@ -1,5 +1,5 @@
 -- The product of an agent's count with those of the lower agents, within the range or past it.
-use Rattle.std.proofs.Common.{◌≡◌, ℕ, ◌+◌, ◌-◌, ◌*◌, ◌/◌, ◌<◌, ◌≤◌, refl, div-lt_iff_lt-mul, le-div_iff_mul-le, arith}
+use Rattle.std.proofs.Common.{◌≡◌, ℕ, ◌+◌, ◌-◌, ◌*◌, ◌/◌, ◌<◌, ◌≤◌, refl, div-lt_iff_lt-mul, arith}
 use Rattle.model.specs.Model.{everyone, moves, most}
 use Rattle.model.specs.Kinds.{CountsRanged}
 use Rattle.model.proofs.Moving.{moves_with, moves_grow}
@@ -7,9 +7,6 @@ use Rattle.model.proofs.Moving.{moves_with, moves_grow}
 module _ (d : ℕ → ℕ) (a joint : ℕ) (is : joint ≡ moves everyone d a) (pos : 1 ≤ joint) where
   pub product_more : joint * d a ≡ moves everyone d (a + 1)
   product_more = let e = moves_with everyone d a refl in cc
-
-  pub product_fits : d a ≤ most / joint → joint * d a ≤ most
-  product_fits h = omega (arith, (le-div_iff_mul-le {k = joint} {x = d a} {y = most} pos).0 h)
 
   pub product_past : (k : ℕ) → a < k → most / joint < d a → CountsRanged k d → ⊥
   product_past k l h r =

@@ -4,7 +4,7 @@ use native.Mathlib.Nat.{sub-zero, div-eq_of_lt}
 use lib.Dec.{eqb_refl, eqb-zero-suc, eqb-suc-zero, eqb-suc-suc, leb-suc-suc, leb-suc-zero}
 use lib.Bits.{bit_and, bit_or, and_step, or_step}
 use lib.Arith.{bin_ind}
-use Rattle.std.proofs.lemmas.Nat.{shr_split, mod_below, and_mask, and_shr, or_shr, shr-shr, pow_pos}
+use Rattle.std.proofs.lemmas.Nat.{shr_split, mod_below, and_shr, or_shr, shr-shr, pow_pos}
 use Rattle.std.proofs.lemmas.Bool.Decides.{nat_tests}
 use Rattle.std.proofs.lemmas.Bool.{eqb-false, ne_eqb, cases_lt}
 use Rattle.sets.specs.Sets.{bit}
@@ -93,10 +93,6 @@ ones_holds w i =
 
 pub none_hold : (a : ℕ) → (a ≡ 0) ↔ ((i : ℕ) → T (bit a i) → ⊥)
 none_hold a = (λ e i t. subst T (bit_zero i) (subst (λ (x : ℕ). T (bit x i)) e t), λ f. bits_none a (λ i. none (bit a i) (f i)))
-
--- the test of one bit
-pub bit_test : (a s : ℕ) → eqb (bit_and (a / 2 ^ s) 1) 1 ≡ bit a s
-bit_test a s = ap (λ (x : ℕ). eqb x 1) (and_mask (a / 2 ^ s) 1)
 
 pub shifted_out : (a k : ℕ) → T (eqb (a / 2 ^ k) 0) ↔ (a < 2 ^ k)
 shifted_out a k = (
