@@ -54,3 +54,10 @@ pub file_parts : (M : Model) (names : List (List ℕ)) →
     encode (begin M.k M.n (length names)) ++ (upto (name_bytes names) (length names) ++ (upto (state_bytes M) M.n ++ encode (finish (outcomes M M.n)))) ≡ file_of M names
 unfolding file_of
 file_parts M names = refl
+
+pub parts_length : (M : Model) (names : List (List ℕ)) → length (file_of M names) ≡ 7 + length (upto (name_bytes names) (length names)) + length (upto (state_bytes M) M.n)
+unfolding file_of
+parts_length M names =
+    let states = upto (state_bytes M) M.n in
+    let end = encode (finish (outcomes M M.n)) in
+    omega (arith, length-append (upto (name_bytes names) (length names)) (states ++ end), length-append states end)

@@ -2,15 +2,16 @@
 ghost use Rattle.std.specs.Prelude.{◌≡◌, ◌^◌, ◌<◌, ◌≤◌, T, ◌↔◌, length, MatchResult};
 ghost use Rattle.model.specs.Model.{joint, marks_of};
 ghost use Rattle.legend.specs.Legends.{names_of};
-ghost use Rattle.list.specs.Lists.{room};
+ghost use Rattle.list.specs.Lists.{room, Puts};
 ghost use Rattle.file.specs.File.{Named, file_of, outcomes};
-ghost use Rattle.file.specs.Puts.{Puts};
 ghost use Rattle.file.specs.Writing.{Refused, Written, fault_number};
 
-use crate::put::{put_all, put_names, put_states};
+use crate::kind::Kind;
+use crate::put::{put, put_names, put_states};
 use legend::Legend;
 use list::List;
 use model::game::{Game, Marked};
+use model::pointed::Pointed;
 
 /// Why a model isn't written.
 #[derive(Clone, Copy, PartialEq, Eq, Debug)]
@@ -40,39 +41,13 @@ pub fn among(marks: u16, names: u8) -> bool
     names >= 16 || marks >> names == 0
 }
 
-/// Whether each mark that a state carries is one of the first `names`.
-fn is_named<G: Marked>(g: &G, names: u8) -> bool
-    ensures { T result ↔ Named (G.Marked.marked g.now) names }
-{
-    let mut s = 0;
-    while let Some(marks) = g.marks(s) {
-        if !among(marks, names) {
-            return false;
-        }
-        s += 1;
-    }
-    true
-}
-
-/// How many joint moves there are at a state that exists.
-fn joint_moves<G: Game>(g: &G, s: u8) -> u8
-    requires { s < (G.Game.model g.now).n }
-    ensures { result ≡ joint (G.Game.model g.now) s }
-{
-    let mut j = 0;
-    while let Some(_) = g.out(s, j) {
-        j += 1;
-    }
-    j
-}
-
 /// How many outcomes all states have.
 fn all_outcomes<G: Game>(g: &G) -> u16
     ensures { result ≡ outcomes (G.Game.model g.now) (G.Game.model g.now).n }
 {
     let mut total = 0;
     for s in 0..g.states() {
-        total += u16::from(joint_moves(g, s));
+        total += u16::from(Pointed::new(g, s).unwrap().joint_moves());
     }
     total
 }
@@ -81,7 +56,13 @@ fn all_outcomes<G: Game>(g: &G) -> u16
 fn is_covered<G: Game>(g: &G, legend: &Legend) -> bool
     ensures { T result ↔ Named (marks_of (G.Game.model g.now)) (length (names_of legend.now)) }
 {
-    is_named(g, legend.count())
+    let names = legend.count();
+    for s in 0..g.states() {
+        if !among(Pointed::new(g, s).unwrap().marks(), names) {
+            return false;
+        }
+    }
+    true
 }
 
 /// How long the file of a model and its legend is, by the number of all outcomes.
@@ -93,15 +74,17 @@ fn file_length<G: Game>(g: &G, legend: &Legend, total: u16) -> usize
 }
 
 /// Puts the file of a model and its legend, where there is room for it.
+#[tactic(auto, using(crate::proofs::Spanning::parts_length, list::proofs::Joins::puts_room))]
 fn put_file<G: Game>(bytes: &mut List<u8>, g: &G, legend: &Legend, total: u16)
     requires total { total ≡ outcomes (G.Game.model g.now) (G.Game.model g.now).n }
     requires room { length (file_of (G.Game.model g.now) (names_of legend.now)) ≤ room bytes.old }
     ensures { Puts bytes.old bytes.new (file_of (G.Game.model g.now) (names_of legend.now)) }
 {
-    put_all(bytes, &[1, g.agents(), g.states(), legend.count()]);
+    put(bytes, &[Kind::Begin.code(), g.agents(), g.states(), legend.count()]);
     put_names(bytes, legend);
     put_states(bytes, g);
-    put_all(bytes, &[5, (total / 256) as u8, (total % 256) as u8]);
+    put(bytes, &[Kind::End.code()]);
+    put(bytes, &total.to_be_bytes());
 }
 
 /// Writes the file of a model and its legend, and answers the file's length; the bytes past it stay as they were.
