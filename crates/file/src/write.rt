@@ -80,7 +80,10 @@ fn put_file<G: Game>(bytes: &mut List<u8>, g: &G, legend: &Legend, total: u16)
     requires room { length (file_of (G.Game.model g.now) (names_of legend.now)) ≤ room bytes.old }
     ensures { Puts bytes.old bytes.new (file_of (G.Game.model g.now) (names_of legend.now)) }
 {
-    put(bytes, &[Kind::Begin.code(), g.agents(), g.states(), legend.count()]);
+    put(
+        bytes,
+        &[Kind::Begin.code(), g.agents(), g.states(), legend.count()],
+    );
     put_names(bytes, legend);
     put_states(bytes, g);
     put(bytes, &[Kind::End.code()]);

@@ -1,5 +1,4 @@
-use Rattle.std.proofs.Common.{◌≡◌, ℕ, List, ◌∷◌, ◌++◌, [], ◌≤◌, ◌<◌, length, get_or, ap, arith}
-use Rattle.list.specs.Lists.{room}
+use Rattle.std.proofs.Common.{◌≡◌, ℕ, List, ◌∷◌, ◌++◌, [], length, get_or, ap, arith}
 use Rattle.list.proofs.Joins.{puts_more, puts_room, puts_same}
 use Rattle.legend.specs.Legends.{names_of}
 use Rattle.file.specs.File.{name_bytes}

@@ -1,4 +1,4 @@
-use Rattle.std.proofs.Common.{◌≡◌, ◌∷◌, [], length, arith}
+use Rattle.std.proofs.Common.{◌≡◌, ◌∷◌, [], arith}
 use Rattle.list.proofs.Joins.{puts_same}
 use Rattle.model.specs.Model.{joint}
 use Rattle.file.specs.File.{out_bytes}

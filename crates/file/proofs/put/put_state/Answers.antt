@@ -1,4 +1,4 @@
-use Rattle.std.proofs.Common.{◌≡◌, List, ◌∷◌, ◌++◌, [], length, ap, arith, length-append}
+use Rattle.std.proofs.Common.{length, ap, arith, length-append}
 use Rattle.list.proofs.Joins.{puts_more, puts_room, puts_same}
 use Rattle.model.specs.Model.{joint}
 use Rattle.file.specs.File.{encode, state, counts_at, out_bytes, upto}

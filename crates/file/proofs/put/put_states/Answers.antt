@@ -1,6 +1,5 @@
 use Rattle.std.proofs.Common.{◌≡◌, ◌<◌, length, ap, arith}
 use Rattle.std.proofs.lemmas.Option.{MatchOption-at_some}
-use Rattle.list.proofs.Joins.{puts_same}
 use Rattle.model.specs.Model.{Marks}
 use Rattle.file.specs.File.{state_bytes}
 use Rattle.file.proofs.Putting.{puts_upto, room_upto}
