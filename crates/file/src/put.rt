@@ -56,6 +56,7 @@ fn put_outs<G: Game>(bytes: &mut List<u8>, at: &Pointed<G>)
 }
 
 /// Puts a state with its outcomes.
+#[tactic(auto, using(list::proofs::Joins::puts_room))]
 fn put_state<G: Game>(bytes: &mut List<u8>, at: &Pointed<G>)
     requires { length (state_bytes (G.Game.model at.now.game.now) at.now.state) ≤ room bytes.old }
     ensures { Puts bytes.old bytes.new (state_bytes (G.Game.model at.now.game.now) at.now.state) }

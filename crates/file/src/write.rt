@@ -66,6 +66,7 @@ fn is_covered<G: Game>(g: &G, legend: &Legend) -> bool
 }
 
 /// How long the file of a model and its legend is, by the number of all outcomes.
+#[tactic(auto, using(crate::proofs::Spanning::length_file_of))]
 fn file_length<G: Game>(g: &G, legend: &Legend, total: u16) -> usize
     requires { total ≡ outcomes (G.Game.model g.now) (G.Game.model g.now).n }
     ensures { result ≡ length (file_of (G.Game.model g.now) (names_of legend.now)) }
@@ -91,6 +92,7 @@ fn put_file<G: Game>(bytes: &mut List<u8>, g: &G, legend: &Legend, total: u16)
 }
 
 /// Writes the file of a model and its legend, and answers the file's length; the bytes past it stay as they were.
+#[tactic(auto, using(crate::proofs::Putting::written))]
 pub fn write<G: Game>(g: &G, legend: &Legend, bytes: &mut [u8]) -> Result<usize, WriteFault>
     ensures { MatchResult result (λ len. Written (G.Game.model g.now) (names_of legend.now) bytes.old bytes.new len) (λ f. Refused (G.Game.model g.now) (names_of legend.now) (length bytes.old) f × (bytes.new ≡ bytes.old)) }
 {

@@ -1,15 +1,8 @@
-use Rattle.std.proofs.Common.{length, ap, arith, length-append}
-use Rattle.list.proofs.Joins.{puts_more, puts_room, puts_same}
+use Rattle.list.proofs.Joins.{puts_more, puts_same}
 use Rattle.model.specs.Model.{joint}
-use Rattle.file.specs.File.{encode, state, counts_at, out_bytes, upto}
+use Rattle.file.specs.File.{out_bytes, upto}
 use Rattle.file.proofs.Putting.{puts_number}
 use Rattle.file.proofs.put.put_state.Goals as goal
-
-pub put_outs-requires : goal.put_outs-requires
-put_outs-requires g c =
-    let at = c.args.at.now in
-    let M = g.G.Game.model at.game.now in
-    omega (arith, c.requires, puts_room c.put.ensures, puts_room c.put-2.ensures, puts_room c.put-3.ensures, ap length c.counts.ensures, length-append (encode (state (M.marks at.state) (counts_at M at.state))) (upto (out_bytes M at.state) (joint M at.state)))
 
 pub returns : goal.returns
 returns g c =
