@@ -1,6 +1,7 @@
 -- The commands of a file, and that they lead from the first moment to the end.
 use Rattle.std.proofs.Common.{◌≡◌, ℕ, zero, suc, ◌+◌, ◌-◌, ◌<◌, ◌≤◌, true, false, cond, eqb, ltb, List, [], ◌∷◌, ◌++◌, length, get_or, take, sym, refl, ap, ◌∙◌, subst, inl, inr, add-one, arith}
 use Rattle.std.specs.List.{flat_map}
+use Rattle.std.proofs.lemmas.Grind.{flat_map-append}
 use Rattle.std.proofs.lemmas.List.{append-nil, append_assoc, append_cancel_left, length-take-le, get_or_append_left, get_or_push, get_or-take, take_all, take_more, same_from_push, ext_get_or}
 use Rattle.std.proofs.lemmas.Bool.{cases_eq, ne_eqb, lt-ltb, le-ltb, cond-true, cond-false}
 use Rattle.model.specs.Model.{Model, Same, everyone, moves, joint}
@@ -26,17 +27,13 @@ abbrev pub commands_of : Model → List (List ℕ) → List Command
 commands_of M names =
     begin M.k M.n (length names) ∷ (upto (name_at names) (length names) ++ (upto (state_at M) M.n ++ finish (outcomes M M.n) ∷ []))
 
-pub joined_append : {X A : Type 0} (f : X → List A) (xs ys : List X) → flat_map f (xs ++ ys) ≡ flat_map f xs ++ flat_map f ys
-joined_append f [] ys = refl
-joined_append f (x ∷ xs) ys = ap (λ (l : List _). f x ++ l) (joined_append f xs ys) ∙ sym (append_assoc (f x) (flat_map f xs) (flat_map f ys))
-
 -- a row of commands spells a row of bytes
 pub joined_upto : {X A : Type 0} (f : X → List A) (g : ℕ → List X) (h : ℕ → List A) (n : ℕ) → ((i : ℕ) → flat_map f (g i) ≡ h i) → flat_map f (upto g n) ≡ upto h n
 joined_upto f g h zero e = refl
 joined_upto f g h (suc n) e =
     let before = joined_upto f g h n e in
     let here = e n in
-    let both = joined_append f (upto g n) (g n) in
+    let both = flat_map-append f (upto g n) (g n) in
     cc
 
 pub names_spelled : (names : List (List ℕ)) (n : ℕ) → flat_map encode (upto (name_at names) n) ≡ upto (name_bytes names) n
@@ -54,8 +51,8 @@ file_commands M names =
     let end = finish (outcomes M M.n) ∷ [] in
     let a : flat_map encode (upto (name_at names) m ++ (upto (state_at M) M.n ++ end)) ≡ upto (name_bytes names) m ++ (upto (state_bytes M) M.n ++ encode (finish (outcomes M M.n))) =
     cc (
-      joined_append encode (upto (name_at names) m) (upto (state_at M) M.n ++ end),
-      joined_append encode (upto (state_at M) M.n) end,
+      flat_map-append encode (upto (name_at names) m) (upto (state_at M) M.n ++ end),
+      flat_map-append encode (upto (state_at M) M.n) end,
       names_spelled names m,
       states_spelled M M.n,
     ) in

@@ -1,5 +1,4 @@
 pub mod File
 pub mod Kinds
-pub mod Puts
 pub mod Reading
 pub mod Writing

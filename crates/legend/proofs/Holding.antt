@@ -1,5 +1,5 @@
 -- The names of a legend, one by one.
-use Rattle.std.proofs.Common.{◌≡◌, ℕ, ◌<◌, ◌≤◌, List, [], ◌∷◌, ◌++◌, length, get_or, sym, ◌∙◌, subst, inl, inr, arith}
+use Rattle.std.proofs.Common.{false, Option, None, Some, is_some, MatchOption, ◌≡◌, ℕ, ◌<◌, ◌≤◌, List, [], ◌∷◌, ◌++◌, length, get_or, sym, ◌∙◌, subst, inl, inr, arith}
 use mathlib.Core.Logic.{∥∥₁_elim}
 use native.Mathlib.Bridge.{le_prop}
 use native.Mathlib.Nat.{ℕ_set}
@@ -28,17 +28,11 @@ module _ (names : List (List ℕ)) (name : List ℕ) where
     ];
   }
 
-  -- what would break the law
-  pub last_name : Lawful (names ++ name ∷ []) → Name name
-  last_name l = subst Name (get_or_push names name [] (length names) (omega arith)) (l.each (length names) (omega (arith, length_push names name)))
-
-  pub last_room : Lawful (names ++ name ∷ []) → length names < 16
-  last_room l = omega (arith, l.few, length_push names name)
-
-  pub last_new : Lawful (names ++ name ∷ []) → (i : ℕ) → i < length names → get_or names i [] ≡ name → ⊥
-  last_new l i h e =
-      l.differ i (length names) h (omega (arith, length_push names name))
-      (get_or_append_left names _ [] i h ∙ e ∙ sym (get_or_push names name [] (length names) (omega arith)))
+  -- the same, where the name was sought and not found
+  pub lawful_next : (o : Option ℕ) → is_some o ≡ false → MatchOption o ((i : ℕ) → i < length names → get_or names i [] ≡ name → ⊥) (λ i. (i < length names) × (get_or names i [] ≡ name)) →
+      length names < 16 → Name name → Lawful names → Lawful (names ++ name ∷ [])
+  lawful_next None e new room is l = lawful_more l room is new
+  lawful_next (Some i) e found room is l = cc e
 
 -- a legend's names are few, and each has eight bytes
 pub names_few : (l : Legend) → length (names_of l) ≤ 16

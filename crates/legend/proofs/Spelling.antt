@@ -19,10 +19,6 @@ module _ (w : List ℕ) where
   pub padded-length : length w ≤ 8 → length (padded w) ≡ 8
   padded-length h = omega (arith, length-append w (replicate (8 - length w) 32), length-replicate {A = ℕ} (8 - length w) 32)
 
-  -- padding takes nothing away
-  pub padded_long : length w ≤ length (padded w)
-  padded_long = omega (arith, length-append w (replicate (8 - length w) 32))
-
 pub name_length : {bytes : List ℕ} → Name bytes → length bytes ≡ 8
 name_length n = ap length n.spelled ∙ padded-length n.word n.is.short
 

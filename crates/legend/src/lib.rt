@@ -12,6 +12,7 @@ pub use name::{is_name, pad, same};
 /// Up to 16 different names, each of eight bytes: name number i stands for mark i.
 #[derive(Clone, Copy)]
 pub struct Legend {
+    // kept: no heap here, so the names stand in a fixed array, the first `count` of it in use
     names: [[u8; 8]; 16],
     count: u8,
     ghost few: { count ≤ 16 },

@@ -7,24 +7,19 @@ ghost use Rattle.legend.specs.Names.{Letter, LetterOrDigit, Name, padded};
 pub fn same(a: &[u8; 8], b: &[u8; 8]) -> bool
     ensures { T result ↔ (a.now ≡ b.now) }
 {
-    for i in 0..8usize {
-        if a[i] != b[i] {
-            return false;
-        }
-    }
-    true
+    a == b
 }
 
 fn is_letter(b: u8) -> bool
     ensures { T result ↔ Letter b }
 {
-    b >= b'a' && b <= b'z'
+    b.is_ascii_lowercase()
 }
 
 fn is_inner(b: u8) -> bool
     ensures { T result ↔ LetterOrDigit b }
 {
-    is_letter(b) || b >= b'0' && b <= b'9'
+    is_letter(b) || b.is_ascii_digit()
 }
 
 /// How many letters and digits come first.
@@ -33,12 +28,14 @@ fn word_length(bytes: &[u8; 8]) -> usize
     ensures inner { (i : ℕ) → i < result → LetterOrDigit (slice_index bytes.now i) }
     ensures longest { result < 8 → LetterOrDigit (slice_index bytes.now result) → ⊥ }
 {
-    for i in 0..8usize {
-        if !is_inner(bytes[i]) {
-            return i;
-        }
-    }
-    8
+    bytes.iter().position(|b| !is_inner(*b)).unwrap_or(8)
+}
+
+/// Whether the bytes are all spaces.
+fn is_blank(bytes: &[u8]) -> bool
+    ensures { T result ↔ ((i : ℕ) → i < length bytes.now → slice_index bytes.now i ≡ 32) }
+{
+    bytes.iter().all(|b| *b == b' ')
 }
 
 /// Whether the bytes are a letter, then letters or digits, then spaces, and not the reserved name.
@@ -49,12 +46,7 @@ pub fn is_name(bytes: &[u8; 8]) -> bool
         return false;
     }
     let end = word_length(bytes);
-    for i in end..8 {
-        if bytes[i] != b' ' {
-            return false;
-        }
-    }
-    is_letter(bytes[0])
+    is_letter(bytes[0]) && is_blank(&bytes[end..])
 }
 
 /// A word with spaces after it up to eight bytes, or none where it is longer.
@@ -65,8 +57,6 @@ pub fn pad(word: &[u8]) -> Option<[u8; 8]>
         return None;
     }
     let mut name = [b' '; 8];
-    for i in 0..word.len() {
-        name[i] = word[i];
-    }
+    name[..word.len()].copy_from_slice(word);
     Some(name)
 }

@@ -2,6 +2,7 @@
 #![tactic(auto)]
 
 pub mod game;
+pub mod pointed;
 pub mod ring;
 pub mod state;
 pub mod table;

@@ -1,37 +1,24 @@
-use Rattle.std.proofs.Common.{◌<◌, length, sym, ap, arith}
+use Rattle.std.proofs.Common.{◌≡◌, ℕ, List, ◌∷◌, ◌++◌, [], length, get_or, ap, arith}
+use Rattle.list.proofs.Joins.{puts_more, puts_room, puts_same}
 use Rattle.legend.specs.Legends.{names_of}
-use Rattle.legend.proofs.Holding.{names_few, name_eight}
 use Rattle.file.specs.File.{name_bytes}
-use Rattle.file.proofs.Putting.{puts_more, puts_room, puts_same}
-use Rattle.file.proofs.Spanning.{upto_more, names_length}
+use Rattle.file.proofs.Putting.{puts_upto, room_upto}
 use Rattle.file.proofs.put.put_names.Goals as goal
 
-pub put_all-requires : goal.put_all-requires
-put_all-requires c =
-    let l = c.args.legend.now in
-    omega (arith, c.requires, c.in-Some.ensures.0, puts_room c.loop-name.invariant.1, names_length l c.loop-name.i c.loop-name.invariant.0)
-
-pub put_all-requires-in-Some : goal.put_all-requires-in-Some
-put_all-requires-in-Some c =
-    let l = c.args.legend.now in
-    let told = c.in-Some.ensures in
-    omega (arith, c.requires, told.0, puts_room c.loop-name.invariant.1, names_length l c.loop-name.i c.loop-name.invariant.0, puts_room c.put_all.ensures, ap length told.1, name_eight l c.loop-name.i told.0)
-
-few : (c : goal.After-put_all-in-Some) → c.loop-name.i < 16
-few c = omega (arith, c.in-Some.ensures.0, names_few c.args.legend.now)
-
-pub overflow_add-i : goal.overflow_add-i
-overflow_add-i c = omega (arith, few c)
-
-pub loop-name-smaller : goal.loop-name-smaller
-loop-name-smaller c = omega (arith, few c)
-
-pub loop-name-preserved : goal.loop-name-preserved
-loop-name-preserved c =
-    let told = c.in-Some.ensures in
+pub put-requires : goal.put-requires
+put-requires c =
     let names = names_of c.args.legend.now in
-    let i = c.loop-name.i in (
-      omega (arith, told.0),
-      puts_same (sym (upto_more (name_bytes names) i))
-          (puts_more c.loop-name.invariant.1 (puts_more c.put_all.ensures (puts_same told.1 c.put_all-in-Some.ensures))),
-    )
+    omega (arith, room_upto (name_bytes names) (length names) c.loop-i.i c.requires c.loop-i.invariant (omega (arith, ap length c.names-name-items.ensures)))
+
+pub put-requires-in-loop-i : goal.put-requires-in-loop-i
+put-requires-in-loop-i c =
+    let names = names_of c.args.legend.now in
+    let fits = room_upto (name_bytes names) (length names) c.loop-i.i c.requires c.loop-i.invariant (omega (arith, ap length c.names-name-items.ensures)) in
+    omega (arith, fits, puts_room c.put.ensures, ap (λ (x : List (List ℕ)). length (get_or x c.loop-i.i [])) c.names-name-items.ensures)
+
+pub loop-i-preserved : goal.loop-i-preserved
+loop-i-preserved c =
+    let names = names_of c.args.legend.now in
+    let i = c.loop-i.i in
+    let part : (c.code.result ∷ i ∷ []) ++ get_or c.names-name-items.result.now i [] ≡ name_bytes names i = cc in
+    puts_upto (name_bytes names) i c.loop-i.invariant (puts_same part (puts_more c.put.ensures c.put-in-loop-i.ensures))

@@ -1,5 +1,5 @@
 use Rattle.file.specs.File.{state_bytes, upto}
-use Rattle.file.specs.Puts.{Puts}
+use Rattle.list.specs.Lists.{Puts}
 use Rattle.file.proofs.put.put_states.Given as goal
 
 abbrev pub invariant-loop-s : goal.invariant-loop-s

@@ -1,6 +1,0 @@
-use Rattle.std.proofs.Common.{◌≡◌, ◌*◌, ◌≤◌}
-use Rattle.file.specs.File.{outcomes}
-use Rattle.file.proofs.write.all_outcomes.Given as goal
-
-abbrev pub invariant-loop-s : goal.invariant-loop-s
-invariant-loop-s g l = (l.total ≡ outcomes (g.G.Game.model l.g) l.s) × (l.total ≤ l.s * 64)
