@@ -6,20 +6,20 @@ ghost use Rattle.ability.specs.Ability.{Leads};
 
 use crate::own::own_parts;
 use crate::parts::Parts;
-use model::game::{Game, Marked};
+use model::game::Game;
+use model::pointed::Pointed;
 use sets::coalition::Coalition;
 use sets::state_set::StateSet;
 
 /// The own choices such that every joint move agreeing with one of them leads from a state into `x`.
-fn leading<G: Game>(g: &G, s: u8, x: StateSet, parts: &Parts) -> StateSet
-    requires state { s < (G.Game.model g.now).n }
-    requires moves { parts.now.width ≡ joint (G.Game.model g.now) s }
+fn leading<G: Game>(at: &Pointed<G>, x: StateSet, parts: &Parts) -> StateSet
+    requires moves { parts.now.width ≡ joint (G.Game.model at.now.game.now) at.now.state }
     requires few { parts.now.count ≤ limit }
-    ensures { (c : ℕ) → T (member result c) ↔ Leads (G.Game.model g.now) s (member x) parts.now (joint (G.Game.model g.now) s) c }
+    ensures { (c : ℕ) → T (member result c) ↔ Leads (G.Game.model at.now.game.now) at.now.state (member x) parts.now (joint (G.Game.model at.now.game.now) at.now.state) c }
 {
     let mut free = StateSet::below(parts.count);
     for (j, own) in parts.own[0..parts.width as usize].iter().enumerate() {
-        if !g.out(s, j as u8).is_some_and(|t| x.contains(t)) {
+        if !at.out(j as u8).is_some_and(|t| x.contains(t)) {
             free = free.difference(StateSet::single(*own));
             if free.is_empty() {
                 return free;
@@ -34,11 +34,14 @@ pub fn can<G: Game>(g: &G, a: Coalition, s: u8, x: StateSet) -> bool
     ensures can { T result ↔ Can (G.Game.model g.now) (who a) s (λ t. T (member x t)) }
     ensures numbering { s < (G.Game.model g.now).n → Numbering (G.Game.model g.now) (who a) s }
 {
-    if s >= g.states() || !a.is_among(g.agents()) {
+    let Some(at) = Pointed::new(g, s) else {
+        return false;
+    };
+    if !a.is_among(at.agents()) {
         return false;
     }
-    let parts = own_parts(g, a, s);
-    !leading(g, s, x, &parts).is_empty()
+    let parts = own_parts(&at, a);
+    !leading(&at, x, &parts).is_empty()
 }
 
 /// The states of `among` from which the coalition can lead into `x`.

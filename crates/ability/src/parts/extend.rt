@@ -11,6 +11,7 @@ fn repeat(own: &mut [u8; 64], width: u8, end: u8, step: u8)
     requires fits { (j : ℕ) → j < end → slice_index own.old (j % width) + j / width * step < 256 }
     ensures { (j : ℕ) → j < end → slice_index own.new j ≡ slice_index own.old (j % width) + j / width * step }
 {
+    // kept: each place is made of the one `width` places before in the same array, which no iterator lends beside it
     for j in width..end {
         own[j as usize] = own[(j - width) as usize] + step;
     }

@@ -1,43 +1,33 @@
-use Rattle.std.proofs.Common.{◌≡◌, ℕ, ◌<◌, get_or, sym, ◌∙◌, arith, rules}
-use Rattle.sets.specs.Sets.{bit, who}
+use Rattle.std.proofs.Common.{ℕ, T, not, ◌↔◌, subst, rules}
+use Rattle.sets.specs.Sets.{bit, member, who}
 use Rattle.sets.proofs.Bitwise.{T_not}
-use Rattle.sets.proofs.Members.{some_member}
-use Rattle.model.specs.Model.{joint, own_of}
+use Rattle.model.specs.Model.{Can, Exists}
 use Rattle.model.proofs.Numbers.{numbering}
+use Rattle.ability.proofs.Leading.{can_leads}
 use Rattle.ability.proofs.Repeating.{parts_few}
 use Rattle.ability.proofs.enforce.can.Goals as goal
 
-pub returns-then-s-states-clause-numbering : goal.returns-then-s-states-clause-numbering
-returns-then-s-states-clause-numbering g c = numbering _ (g.met.G.Game.ranged c.args.g.now) (who c.args.a) c.args.s
+pub returns-then-not-is_among-clause-numbering : goal.returns-then-not-is_among-clause-numbering
+returns-then-not-is_among-clause-numbering g c = numbering _ (g.met.G.Game.ranged c.args.g.now) (who c.args.a) c.args.s
 
 pub leading-requires-clause-few : goal.leading-requires-clause-few
 leading-requires-clause-few g c =
-    let M = g.G.Game.model c.args.g.now in
-    let here : c.args.s < M.n = search rules in
-    parts_few M (g.met.G.Game.ranged c.args.g.now) c.args.s here (bit (who c.args.a)) c.own_parts-parts.result c.own_parts-parts.ensures
+    let at = c.in-Some.at in
+    parts_few (g.G.Game.model at.game.now) (g.met.G.Game.ranged at.game.now) at.state at.exists (bit (who c.args.a)) c.own_parts-parts.result c.own_parts-parts.ensures
 
 pub returns-clause-can : goal.returns-clause-can
 returns-clause-can g c =
-    let M = g.G.Game.model c.args.g.now in
-    let s = c.args.s in
-    let parts = c.own_parts-parts.ensures in
-    let agree : (j : ℕ) → j < joint M s → get_or c.own_parts-parts.result.own j 0 ≡ own_of M (who c.args.a) s j = λ j l. parts.own j (omega (arith, parts.width)) in (
-      λ t.
-          let some = some_member c.leading.result (λ none. (T_not c.is_empty.result).0 t (c.is_empty.ensures.1 none)) in
-          let leads = (c.leading.ensures some.0).0 some.1 in
-          record {
-            coalition = search rules;
-            state = search rules;
-            with = some.0;
-            below = omega (arith, leads.below, parts.count);
-            leads = λ j l e. leads.into j l (agree j l ∙ e);
-          },
-      λ p. (T_not c.is_empty.result).1 (λ none.
-          c.is_empty.ensures.0 none p.with ((c.leading.ensures p.with).1 (record {
-            below = omega (arith, p.below, parts.count);
-            into = λ j l e. p.leads j l (sym (agree j l) ∙ e);
-          }))),
-    )
+    let at = c.in-Some.at in
+    let M = g.G.Game.model at.game.now in
+    let A = who c.args.a in
+    let exists : Exists M A = search rules in
+    let able = can_leads M A at.state (member c.args.x) c.own_parts-parts.result exists at.exists c.own_parts-parts.ensures c.leading.result c.leading.ensures in
+    let here : T (not c.is_empty.result) ↔ Can M A at.state (λ t. T (member c.args.x t)) = (
+      λ t. able.0 (λ none. (T_not c.is_empty.result).0 t (c.is_empty.ensures.1 none)),
+      λ can. (T_not c.is_empty.result).1 (λ t. able.1 can (c.is_empty.ensures.0 t)),
+    ) in
+    subst (λ x. T (not c.is_empty.result) ↔ Can (g.G.Game.model x) A c.args.s (λ t. T (member c.args.x t))) c.in-Some.ensures.0
+    (subst (λ (s : ℕ). T (not c.is_empty.result) ↔ Can M A s (λ t. T (member c.args.x t))) c.in-Some.ensures.1 here)
 
 pub returns-clause-numbering : goal.returns-clause-numbering
 returns-clause-numbering g c = numbering _ (g.met.G.Game.ranged c.args.g.now) (who c.args.a) c.args.s

@@ -6,5 +6,6 @@ use Rattle.ability.proofs.enforce.leading.Given as goal
 
 abbrev pub invariant-loop-j : goal.invariant-loop-j
 invariant-loop-j g l =
-    let M = g.G.Game.model l.g in
-    (l.j ≤ joint M l.s) × ((c : ℕ) → T (member l.free c) ↔ Leads M l.s (member l.x) l.parts l.j c)
+    let M = g.G.Game.model l.at.game.now in
+    let s = l.at.state in
+    (l.j ≤ joint M s) × ((c : ℕ) → T (member l.free c) ↔ Leads M s (member l.x) l.parts l.j c)
