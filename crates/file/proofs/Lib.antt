@@ -1,3 +1,4 @@
+mod Every
 pub mod Filing
 pub mod Once
 mod Putting

@@ -1,5 +1,5 @@
 //! What a model's file holds.
-ghost use Rattle.std.specs.Prelude.{◌≡◌, ◌≤◌, T, ◌↔◌, length};
+ghost use Rattle.std.specs.Prelude.{◌≡◌, ◌^◌, ◌<◌, ◌≤◌, T, ◌↔◌, length};
 ghost use Rattle.list.specs.Lists.{room, Puts};
 ghost use Rattle.model.specs.Model.{marks_of};
 ghost use Rattle.legend.specs.Legends.{names_of};
@@ -33,6 +33,13 @@ fn all_outcomes<G: Game>(game: &G) -> u16
     total
 }
 
+/// Whether each mark that a state carries is one of the first `names`, where the state exists.
+fn is_named<G: Game>(game: &G, s: u8, names: u8) -> bool
+    ensures { T result ↔ (s < (G.Game.model game.now).n → (G.Game.model game.now).marks s < 2 ^ names) }
+{
+    game.marks(s).is_none_or(|marks| among(marks, names))
+}
+
 impl<'a, G: Game> Contents<'a, G> {
     /// The contents of the file of this model and this legend.
     pub(crate) fn new(game: &'a G, legend: &'a Legend) -> Contents<'a, G>
@@ -51,12 +58,7 @@ impl<'a, G: Game> Contents<'a, G> {
         ensures { T result ↔ Named (marks_of (G.Game.model self.now.game.now)) (length (names_of self.now.legend.now)) }
     {
         let names = self.legend.count();
-        for s in 0..self.game.states() {
-            if !among(Pointed::new(self.game, s).unwrap().marks(), names) {
-                return false;
-            }
-        }
-        true
+        (0..self.game.states()).all(|s| is_named(self.game, s, names))
     }
 
     /// How long the file is.
