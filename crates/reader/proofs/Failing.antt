@@ -1,18 +1,14 @@
 -- How the command that is due fails.
-use Rattle.std.proofs.Common.{◌≡◌, ℕ, ◌<◌, List, ◌∷◌, length, Option, Some, None, Result, Ok, Err, arith, sym, ap, ◌∙◌, subst}
+use Rattle.std.proofs.Common.{◌≡◌, ℕ, ◌<◌, List, ◌∷◌, length, Option, Some, None, Result, Err, arith, sym, ap, ◌∙◌, subst}
 use Rattle.std.specs.Option.{SomeIff, ok_or}
 use Rattle.std.proofs.lemmas.Option.{same_Some}
 use Rattle.std.proofs.lemmas.List.{nil_from_length}
 use Rattle.file.specs.Reading.{Seen, Fails, due, size}
 
--- `o.ok_or(d)?` goes on with what the option holds, and where that is nothing d is the error
-pub held : {A E : Type 0} (o : Option A) (d : E) (x : A) → ◌≡◌ {A = Result A E} (Ok x) (ok_or o d) → o ≡ Some x
-held (Some y) d x was = grind arith
-held None d x was = cc
-
-pub lacking : {A E : Type 0} (o : Option A) (d e : E) → ◌≡◌ {A = Result A E} (Err e) (ok_or o d) → (o ≡ None) × (e ≡ d)
-lacking (Some y) d e was = cc
-lacking None d e was = grind arith
+-- the error of `o.ok_or(d)`
+pub error : {A E : Type 0} (o : Option A) (d e : E) → ◌≡◌ {A = Result A E} (Err e) (ok_or o d) → e ≡ d
+error (Some x) d e is = cc
+error None d e is = grind arith
 
 -- no byte is left, another code stands here, or an operand is missing
 module _ {rest : List ℕ} {code : ℕ} (s : Seen) (d : due s ≡ code) where

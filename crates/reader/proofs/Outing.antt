@@ -1,7 +1,7 @@
 -- The outcomes of a state, one after another.
 use Rattle.std.proofs.Common.{◌≡◌, ℕ, ◌+◌, ◌-◌, ◌<◌, ◌≤◌, ◌≢◌, List, [], ◌∷◌, ◌++◌, length, get_or, set, sym, ap, ◌∙◌, subst, ap₂, append_assoc, add-one, arith, get_or-set_other, get_or-set_same}
-use Rattle.file.specs.File.{Command, out, upto, encode}
-use Rattle.file.specs.Reading.{Fails, Refused, Seen, due}
+use Rattle.file.specs.File.{Command, out, upto}
+use Rattle.file.specs.Reading.{Fails, Refused, Seen, after, due}
 use Rattle.file.proofs.Filing.{due_out}
 use Rattle.reader.specs.Heads.{Naming, out_command, outs_seen}
 use Rattle.reader.specs.Sofar.{Sofar}
@@ -26,16 +26,13 @@ module _ {input rest : List ℕ} {place : ℕ} (cs : List Command) (xs : List �
   outs_refused here fails = refused so n.going here (fails _ outs_due)
 
   module _ (ts rest' : List ℕ) (took : rest ≡ 4 ∷ ts ++ rest') (one : length ts ≡ 1) where
-    stands : rest ≡ encode (out (get_or ts 0 0)) ++ rest'
-    stands = took ∙ ap (λ (x : List ℕ). x ++ rest') (spells_out ts one)
-
     pub outs_wrong : {at : ℕ} → s.n ≤ get_or ts 0 0 → at ≡ place → Refused input 7 at
-    outs_wrong outside here = breaks so (out (get_or ts 0 0)) rest' tt (sym outs_due) stands (λ inside. omega (arith, inside)) here
+    outs_wrong outside here = breaks so (out (get_or ts 0 0)) rest' tt (sym outs_due) took (spells_out ts one) (λ inside. omega (arith, inside)) here
 
     pub outs_next : {place' : ℕ} → get_or ts 0 0 < s.n → j < length xs → place' ≡ place + 1 + 1 → Sofar input rest' place' (cs ++ upto (out_command (set xs j (get_or ts 0 0))) (j + 1)) (outs_seen s (j + 1))
     outs_next {place'} inside within p =
         let t = get_or ts 0 0 in
-        let next = sofar_more so (out t) tt (sym outs_due) inside stands (omega (arith, p)) in
+        let next : Sofar input rest' place' ((cs ++ upto (out_command xs) j) ++ out t ∷ []) (after (outs_seen s j) (out t)) = sofar_more so (out t) tt (sym outs_due) inside took (spells_out ts one) (omega (arith, p, one)) in
         let same : (cs ++ upto (out_command xs) j) ++ out t ∷ [] ≡ cs ++ upto (out_command (set xs j t)) (j + 1) =
         append_assoc cs (upto (out_command xs) j) (out t ∷ []) ∙ ap (λ (x : List Command). cs ++ x) (outs_more xs j t within) in
         let left : s.left - j - 1 ≡ s.left - (j + 1) = omega arith in

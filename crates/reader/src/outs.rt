@@ -22,11 +22,11 @@ fn read_outs(cursor: &mut Cursor, states: u8, outcomes: &mut [u8]) -> Result<(),
 {
     for outcome in outcomes.iter_mut() {
         let place = cursor.place;
-        let [t] = cursor.take::<1>(Kind::Out)?;
-        if t >= states {
+        let [state] = cursor.take::<1>(Kind::Out)?;
+        if state >= states {
             return Err(FileRule::Out.at(place));
         }
-        *outcome = t;
+        *outcome = state;
     }
     Ok(())
 }

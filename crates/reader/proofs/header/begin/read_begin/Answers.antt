@@ -1,4 +1,4 @@
-use Rattle.std.proofs.Common.{◌≡◌, ℕ, ◌+◌, List, [], ◌∷◌, ◌++◌, length, get_or, Option, Some, None, MatchOption, MatchResult, refl, ap, ◌∙◌, arith}
+use Rattle.std.proofs.Common.{◌≡◌, ℕ, ◌+◌, List, [], ◌∷◌, ◌++◌, length, get_or, Option, Some, None, MatchOption, MatchResult, refl, ◌∙◌, arith}
 use Rattle.std.specs.Option.{ok_or}
 use Rattle.file.specs.File.{begin, encode}
 use Rattle.file.specs.Reading.{Keeps, Refused, nothing}
@@ -17,10 +17,10 @@ module _ {input rest : List ℕ} {place : ℕ} (so : Sofar input rest place [] n
       (λ h. (h.agents ≡ get_or xs 0 0) × (h.states ≡ get_or xs 1 0) × (h.marks ≡ get_or xs 2 0)) →
       MatchResult (ok_or o f) (λ h. Sofar input rest' place' (opening h.agents h.states h.marks []) (named h.agents h.states h.marks [])) (λ g. Refused input (rule_number g.rule) g.place)
   begun None never =
-      rw fault.0 (breaks so (begin (get_or xs 0 0) (get_or xs 1 0) (get_or xs 2 0)) rest' tt refl (took ∙ ap (λ (l : List ℕ). l ++ rest') (spells_begin xs three)) never fault.1)
+      rw fault.0 (breaks so (begin (get_or xs 0 0) (get_or xs 1 0) (get_or xs 2 0)) rest' tt refl took (spells_begin xs three) never fault.1)
   begun (Some h) same =
       let spelled : 1 ∷ xs ≡ encode (begin h.agents h.states h.marks) = spells_begin xs three ∙ grind arith in
-      sofar_more so (begin h.agents h.states h.marks) tt refl (h.agents_ranged, h.states_ranged, h.marks_ranged) (took ∙ ap (λ (l : List ℕ). l ++ rest') spelled) (omega (arith, moved))
+      sofar_more so (begin h.agents h.states h.marks) tt refl (h.agents_ranged, h.states_ranged, h.marks_ranged) took spelled (omega (arith, moved, three))
 
 pub returns : goal.returns
 returns c input so =
