@@ -1,9 +1,10 @@
-mod Exits
+mod Counting
+mod Failing
 mod Going
 mod Judging
 mod Naming
 mod Outing
 mod Rounding
 mod Rowing
-mod Standing
+mod Spelling
 mod Whole

@@ -1,5 +1,5 @@
 -- A file that was read to its end is the file of the model that its states spell.
-use Rattle.std.proofs.Common.{◌≡◌, ℕ, ◌^◌, ◌<◌, cond, ltb, List, [], ◌∷◌, ◌++◌, length, get_or, drop, sym, refl, ap, ◌∙◌, subst, ap₂, inl, inr, append_assoc, arith, pow_mono}
+use Rattle.std.proofs.Common.{◌≡◌, ℕ, ◌^◌, ◌<◌, cond, ltb, List, [], ◌∷◌, ◌++◌, length, get_or, sym, refl, ap, ◌∙◌, subst, ap₂, inl, inr, append_assoc, arith, pow_mono}
 use Rattle.std.specs.List.{flat_map}
 use Rattle.std.proofs.lemmas.Bool.{cases_lt, cond-true, cond-false, lt-ltb, le-ltb}
 use Rattle.model.specs.Model.{Model, Ranged, everyone, moves}
@@ -14,8 +14,8 @@ use Rattle.file.specs.Reading.{Counts, Fileable, Keeps, Leads, none, more, Seen,
 use Rattle.file.proofs.Once.{leads_append}
 use Rattle.file.proofs.Filing.{name_at, state_at, commands_of, file_commands, get_or-upto, naming, between, names_lead, states_lead, all_named}
 use Rattle.reader.specs.Bodies.{row_commands}
-use Rattle.reader.specs.Heads.{Kept, body_seen, out_command, state_commands}
-use Rattle.reader.specs.Sofar.{Sofar}
+use Rattle.reader.specs.Heads.{Kept, body_seen, out_command}
+use Rattle.reader.specs.Sofar.{Sofar, opening}
 use Rattle.reader.proofs.Naming.{upto_same}
 
 -- the same commands lead to the same moment
@@ -30,39 +30,35 @@ six_counts k xs six rule =
     sym (get_or-upto (λ b. cond (ltb b k) (get_or xs b 0) 0) 6 a 0 l
     ∙ elim (cases_lt a k) [ inl h ↦ cond-true (ltb a k) _ 0 (lt-ltb a k h) | inr h ↦ cond-false (ltb a k) _ 0 (le-ltb a k h) ∙ sym (rule.others a h l) ]))
 
-module _ (n k m : ℕ) (names : List (List ℕ)) (xs ys : List State) (head : Keeps nothing (begin k n m)) (law : Lawful names) (long : length names ≡ m)
-    (kept : (t : ℕ) → t < n → Kept n k m (get_or xs t nowhere)) (copied : (t : ℕ) → t < n → get_or ys t nowhere ≡ get_or xs t nowhere) where
+module _ (n k m : ℕ) (names : List (List ℕ)) (xs : List State) (head : Keeps nothing (begin k n m)) (law : Lawful names) (long : length names ≡ m)
+    (kept : (t : ℕ) → t < n → Kept n k m (get_or xs t nowhere)) where
   abbrev M : Model
-  M = table_of n k ys
-
-  kept_too : (t : ℕ) → t < n → Kept n k m (get_or ys t nowhere)
-  kept_too t l = subst (Kept n k m) (sym (copied t l)) (kept t l)
+  M = table_of n k xs
 
   pub whole_ranged : Ranged M
-  whole_ranged = states_ranged n k ys head.1 head.0.0 head.0.1 (λ t l.
-      let x = kept_too t l in
+  whole_ranged = states_ranged n k xs head.1 head.0.0 head.0.1 (λ t l.
+      let x = kept t l in
       record { sixteen = omega (arith, x.declared, pow_mono head.2); counts = x.counts.ranged; inside = x.inside })
 
   able : Fileable M names
-  able = record { ranged = whole_ranged; lawful = law; named = λ t l. subst (λ (i : ℕ). (get_or ys t nowhere).marks < 2 ^ i) (sym long) (kept_too t l).declared }
+  able = record { ranged = whole_ranged; lawful = law; named = λ t l. subst (λ (i : ℕ). (get_or xs t nowhere).marks < 2 ^ i) (sym long) (kept t l).declared }
 
   -- the commands of a state that was read are those of the model
   row_spelled : (t : ℕ) → t < n → row_commands k xs t ≡ state_at M t
   row_spelled t l =
-      let x = get_or ys t nowhere in
-      ap (state_commands k) (sym (copied t l)) ∙ ap (λ (c : List ℕ). state x.marks c ∷ upto (out_command x) (moves everyone (kinds.counts_at x) k)) (six_counts k x.counts (kept_too t l).six (kept_too t l).counts)
+      let x = get_or xs t nowhere in
+      ap (λ (c : List ℕ). state x.marks c ∷ upto (out_command x.outcomes) (moves everyone (kinds.counts_at x) k)) (six_counts k x.counts (kept t l).six (kept t l).counts)
 
   -- all commands before END, as they were read and as the model has them
   abbrev told : List Command
-  told = begin k n m ∷ (upto (name_at names) m ++ upto (row_commands k xs) n)
+  told = opening k n m names ++ upto (row_commands k xs) n
 
   abbrev due_ones : List Command
   due_ones = begin k n (length names) ∷ (upto (name_at names) (length names) ++ upto (state_at M) n)
 
   commands_spelled : told ≡ due_ones
   commands_spelled =
-      ap (λ (i : ℕ). begin k n i ∷ (upto (name_at names) i ++ upto (row_commands k xs) n)) (sym long)
-      ∙ ap (λ (l : List Command). begin k n (length names) ∷ (upto (name_at names) (length names) ++ l)) (upto_same (row_commands k xs) (state_at M) n row_spelled)
+      ap₂ (λ (i : ℕ) (l : List Command). begin k n i ∷ (upto (name_at names) (length names) ++ l)) (sym long) (upto_same (row_commands k xs) (state_at M) n row_spelled)
 
   leads_all : Leads nothing due_ones (between M names n)
   leads_all =
@@ -72,10 +68,10 @@ module _ (n k m : ℕ) (names : List (List ℕ)) (xs ys : List State) (head : Ke
   total_is : (total : ℕ) → Leads nothing told (body_seen k n m names n total) → total ≡ outcomes M n
   total_is total a = ap (λ (s : Seen). s.outs) (leads_end (subst (λ (l : List Command). Leads nothing l (body_seen k n m names n total)) commands_spelled a) leads_all)
 
-  pub whole_file : (input : List ℕ) (at to total : ℕ) (s : Seen) → Sofar input at told (body_seen k n m names n total) → Sofar input to (told ++ finish total ∷ []) s →
-      Fileable M names × (input ≡ file_of M names ++ drop to input)
-  whole_file input at to total s so end =
+  pub whole_file : {input rest rest' : List ℕ} {at to total : ℕ} {s : Seen} → Sofar input rest at told (body_seen k n m names n total) → Sofar input rest' to (told ++ finish total ∷ []) s →
+      Fileable M names × (input ≡ file_of M names ++ rest')
+  whole_file {rest' = rest'} {total = total} so end =
       let same : told ++ finish total ∷ [] ≡ commands_of M names =
       ap₂ (λ (l : List Command) (x : ℕ). l ++ finish x ∷ []) commands_spelled (total_is total so.leads)
       ∙ ap (λ (l : List Command). begin k n (length names) ∷ l) (append_assoc (upto (name_at names) (length names)) (upto (state_at M) n) (finish (outcomes M n) ∷ [])) in
-      (able, end.bytes ∙ ap (λ (l : List Command). flat_map encode l ++ drop to input) same ∙ ap (λ (l : List ℕ). l ++ drop to input) (file_commands M names))
+      (able, end.bytes ∙ ap (λ (l : List Command). flat_map encode l ++ rest') same ∙ ap (λ (l : List ℕ). l ++ rest') (file_commands M names))

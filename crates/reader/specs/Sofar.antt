@@ -1,29 +1,27 @@
 -- How far the reading of a file has come.
-use Rattle.std.specs.Prelude.{◌≡◌, ℕ, ◌+◌, ◌<◌, ◌≤◌, false, List, [], ◌∷◌, ◌++◌, length, get_or, drop, slice_index, slice_index_or}
+use Rattle.std.specs.Prelude.{◌≡◌, ℕ, false, List, [], ◌∷◌, ◌++◌, length, slice_index_or}
 use Rattle.std.specs.List.{flat_map}
-use Rattle.file.specs.File.{Command, name, encode, upto}
+use Rattle.file.specs.File.{Command, begin, name, encode, upto}
 use Rattle.file.specs.Reading.{Seen, Leads, nothing}
+use Rattle.reader.specs.declared.cursor.Cursor.{Cursor}
 
--- the commands cs fill the input up to a place
-pub record Sofar (input : List ℕ) (at : ℕ) (cs : List Command) (s : Seen) : Type 0 where
+-- the input is the commands cs, up to a place, and the rest
+pub record Sofar (input rest : List ℕ) (place : ℕ) (cs : List Command) (s : Seen) : Type 0 where
   pub leads : Leads nothing cs s
-  pub bytes : input ≡ flat_map encode cs ++ drop at input
-  pub place : at ≡ length (flat_map encode cs)
-  pub within : at ≤ length input
+  pub bytes : input ≡ flat_map encode cs ++ rest
+  pub long : place ≡ length (flat_map encode cs)
 
--- n bytes from a place on
-abbrev pub bytes_at : List ℕ → ℕ → ℕ → List ℕ
-bytes_at input from n = upto (λ i. slice_index input (from + i) ∷ []) n
-
--- a code stands at a place with so many bytes after it
-pub record Stands (input : List ℕ) (at code operands : ℕ) : Type 0 where
-  pub is : get_or input at 0 ≡ code
-  pub whole : at + operands < length input
+-- the commands cs stand before the cursor
+abbrev pub Reached : List ℕ → Cursor → List Command → Seen → Type 0
+Reached input cursor cs s = Sofar input cursor.rest.now cursor.place cs s
 
 -- the command that names a mark
 abbrev pub name_command : List (List ℕ) → ℕ → List Command
 name_command names i = name i (slice_index_or names i []) ∷ []
 
--- the moment after BEGIN and some names
+-- BEGIN and some names, and the moment after them
+abbrev pub opening : ℕ → ℕ → ℕ → List (List ℕ) → List Command
+opening k n m names = begin k n m ∷ upto (name_command names) (length names)
+
 abbrev pub named : ℕ → ℕ → ℕ → List (List ℕ) → Seen
 named k n m names = record { k = k; n = n; m = m; names = names; states = 0; left = 0; outs = 0; ended = false }

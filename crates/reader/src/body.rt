@@ -1,14 +1,47 @@
-//! The states of a file, and its end.
+//! The states one after another, and END.
+ghost use Rattle.std.specs.Prelude.{◌≡◌, ℕ, ◌<◌, ◌≤◌, List, [], ◌∷◌, ◌++◌, length, MatchResult, OnOk, slice_index_or};
+ghost use Rattle.model.specs.Kinds.{nowhere};
+ghost use Rattle.file.specs.File.{Command, finish, upto};
+ghost use Rattle.file.specs.Reading.{Refused, Seen, after};
+ghost use Rattle.reader.specs.Faults.{rule_number};
+ghost use Rattle.reader.specs.Bodies.{row_commands};
+ghost use Rattle.reader.specs.Heads.{Kept, Naming, body_seen};
+ghost use Rattle.reader.specs.Sofar.{Reached};
 
-mod read;
-
+use crate::cursor::Cursor;
+use crate::fault::{FileFault, FileRule};
+use crate::header::Header;
+use crate::outs::read_state;
+use file::kind::Kind;
 use model::state::State;
-pub(crate) use read::{read_end, read_states};
 
-/// The states that were read, the place after them, and how many outcomes they have.
-#[derive(Clone, Copy)]
-pub(crate) struct Body {
-    pub(crate) states: [State; 64],
-    pub(crate) next: usize,
-    pub(crate) total: u16,
+/// Reads all states, and answers how many outcomes they have.
+pub(crate) fn read_states(
+    cursor: &mut Cursor,
+    header: Header,
+    states: &mut [State],
+) -> Result<u16, FileFault>
+    requires { length states.old ≡ header.states }
+    ensures kept { OnOk result ((t : ℕ) → t < header.states → Kept header.states header.agents header.marks (slice_index_or states.new t nowhere)) }
+    ensures reads { (input : List ℕ) (cs : List Command) (names : List (List ℕ)) → length names ≡ header.marks → Reached input cursor.old cs (body_seen header.agents header.states header.marks names 0 0) → MatchResult result (λ total. Reached input cursor.new (cs ++ upto (row_commands header.agents states.new) header.states) (body_seen header.agents header.states header.marks names header.states total)) (λ f. Refused input (rule_number f.rule) f.place) }
+{
+    let mut total = 0;
+    for state in states.iter_mut() {
+        let head = read_state(cursor, header)?;
+        *state = head.state;
+        total += u16::from(head.joint);
+    }
+    Ok(total)
+}
+
+/// Reads END, with the number of all outcomes.
+pub(crate) fn read_end(cursor: &mut Cursor, total: u16) -> Result<(), FileFault>
+    ensures { (input : List ℕ) (cs : List Command) (s : Seen) → Reached input cursor.old cs s → Naming s → s.left ≡ 0 → s.n ≤ s.states → s.outs ≡ total → MatchResult result (λ _. Reached input cursor.new (cs ++ finish total ∷ []) (after s (finish total))) (λ f. Refused input (rule_number f.rule) f.place) }
+{
+    let place = cursor.place;
+    let told = u16::from_be_bytes(cursor.take(Kind::End)?);
+    if told != total {
+        return Err(FileRule::End.at(place));
+    }
+    Ok(())
 }

@@ -2,7 +2,7 @@
 #![tactic(auto)]
 
 mod body;
-mod command;
+mod cursor;
 pub mod fault;
 mod head;
 mod header;

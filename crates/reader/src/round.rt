@@ -3,6 +3,7 @@ ghost use Rattle.std.specs.Prelude.{◌≡◌, length, MatchResult};
 ghost use Rattle.model.specs.Kinds.{table_of};
 ghost use Rattle.legend.specs.Legends.{names_of};
 ghost use Rattle.file.specs.Writing.{Refused};
+ghost use Rattle.reader.specs.declared.round.CopyFault.TheVariants as copy;
 ghost use Rattle.reader.specs.Rounds.{Copied, Uncopied, Restored};
 
 use crate::fault::FileFault;
@@ -13,10 +14,26 @@ use model::game::{Game, Marked};
 use model::table::Table;
 
 /// Why a file isn't copied: it is refused, or it doesn't fit.
-#[derive(Clone, Copy)]
+#[derive(Clone, Copy, PartialEq, Eq, Debug)]
 pub enum CopyFault {
     Read(FileFault),
     Write(WriteFault),
+}
+
+impl From<FileFault> for CopyFault {
+    ghost from_gives = { λ fault made. made ≡ copy.Read fault };
+
+    fn from(fault: FileFault) -> CopyFault {
+        CopyFault::Read(fault)
+    }
+}
+
+impl From<WriteFault> for CopyFault {
+    ghost from_gives = { λ fault made. made ≡ copy.Write fault };
+
+    fn from(fault: WriteFault) -> CopyFault {
+        CopyFault::Write(fault)
+    }
 }
 
 /// Reads the file at the front of the input, and writes the model that it spells: the same bytes.
@@ -25,13 +42,8 @@ pub fn copy(input: &[u8], bytes: &mut [u8]) -> Result<usize, CopyFault>
 {
     let mut table = Table::blank();
     let mut legend = Legend::empty();
-    match read(input, &mut table, &mut legend) {
-        Ok(_) => match write(&table, &legend, bytes) {
-            Ok(len) => Ok(len),
-            Err(fault) => Err(CopyFault::Write(fault)),
-        },
-        Err(fault) => Err(CopyFault::Read(fault)),
-    }
+    read(input, &mut table, &mut legend)?;
+    Ok(write(&table, &legend, bytes)?)
 }
 
 /// Writes a model and its legend, and reads them back: the same model and the same names.
@@ -42,15 +54,9 @@ pub fn restore<G: Game>(
 ) -> Result<(Table, Legend), WriteFault>
     ensures { MatchResult result (λ x. Restored (G.Game.model g.now) (names_of legend.now) bytes.old bytes.new (table_of x.0.states x.0.agents x.0.rows) (names_of x.1)) (λ f. Refused (G.Game.model g.now) (names_of legend.now) (length bytes.old) f × (bytes.new ≡ bytes.old)) }
 {
-    match write(g, legend, bytes) {
-        Ok(_) => {
-            let mut table = Table::blank();
-            let mut back = Legend::empty();
-            match read(bytes, &mut table, &mut back) {
-                Ok(_) => Ok((table, back)),
-                Err(_) => unreachable(),
-            }
-        }
-        Err(fault) => Err(fault),
-    }
+    write(g, legend, bytes)?;
+    let mut table = Table::blank();
+    let mut back = Legend::empty();
+    read(bytes, &mut table, &mut back).unwrap();
+    Ok((table, back))
 }

@@ -1,36 +1,37 @@
 //! BEGIN.
-ghost use Rattle.std.specs.Prelude.{T, ◌↔◌, [], ◌∷◌, MatchResult};
+ghost use Rattle.std.specs.Prelude.{◌≡◌, ℕ, List, [], MatchOption, MatchResult};
 ghost use Rattle.file.specs.File.{begin};
-ghost use Rattle.file.specs.Reading.{Keeps, Refused, after, nothing};
+ghost use Rattle.file.specs.Reading.{Keeps, Refused, nothing};
 ghost use Rattle.reader.specs.Faults.{rule_number};
-ghost use Rattle.reader.specs.Sofar.{Sofar};
+ghost use Rattle.reader.specs.Sofar.{Reached, named, opening};
 
 use super::Header;
-use crate::command::command;
+use crate::cursor::Cursor;
 use crate::fault::{FileFault, FileRule};
+use file::kind::Kind;
 
-/// Whether what a file declares keeps the ranges.
-fn in_range(h: Header) -> bool
-    ensures { T result ↔ Keeps nothing (begin h.agents h.states h.marks) }
-{
-    h.agents >= 1 && h.agents <= 6 && h.states >= 1 && h.states <= 64 && h.marks <= 16
+impl Header {
+    /// The header of what BEGIN declares, or none where it is out of range.
+    fn new(agents: u8, states: u8, marks: u8) -> Option<Header>
+        ensures { MatchOption result (Keeps nothing (begin agents states marks) → ⊥) (λ h. (h.agents ≡ agents) × (h.states ≡ states) × (h.marks ≡ marks)) }
+    {
+        if (1..=6).contains(&agents) && (1..=64).contains(&states) && marks <= 16 {
+            Some(Header {
+                agents,
+                states,
+                marks,
+            })
+        } else {
+            None
+        }
+    }
 }
 
-/// Reads BEGIN, the first four bytes.
-pub(crate) fn read_begin(input: &[u8]) -> Result<Header, FileFault>
-    ensures { MatchResult result (λ h. Keeps nothing (begin h.agents h.states h.marks) × Sofar input.now 4 (begin h.agents h.states h.marks ∷ []) (after nothing (begin h.agents h.states h.marks))) (λ f. Refused input.now (rule_number f.rule) f.place) }
+/// Reads BEGIN.
+pub(crate) fn read_begin(cursor: &mut Cursor) -> Result<Header, FileFault>
+    ensures { (input : List ℕ) → Reached input cursor.old [] nothing → MatchResult result (λ h. Reached input cursor.new (opening h.agents h.states h.marks []) (named h.agents h.states h.marks [])) (λ f. Refused input (rule_number f.rule) f.place) }
 {
-    command(input, 0, 1, 3)?;
-    let h = Header {
-        agents: input[1],
-        states: input[2],
-        marks: input[3],
-    };
-    if !in_range(h) {
-        return Err(FileFault {
-            rule: FileRule::Begin,
-            place: 0,
-        });
-    }
-    Ok(h)
+    let place = cursor.place;
+    let [agents, states, marks] = cursor.take::<3>(Kind::Begin)?;
+    Header::new(agents, states, marks).ok_or(FileRule::Begin.at(place))
 }

@@ -1,69 +1,70 @@
-use Rattle.std.proofs.Common.{◌≡◌, ℕ, ◌-◌, ◌<◌, ◌≤◌, List, length, get_or, take, sym, refl, ◌∙◌, subst, arith, length-take-le, get_or-take}
-use native.Mathlib.Nat.{sub-zero}
+use Rattle.std.proofs.Common.{◌≡◌, ℕ, length, Option, Some, None, MatchOption, IsSome, refl, sym, ◌∙◌, subst, arith, length-take-le}
+use Rattle.std.proofs.lemmas.Option.{MatchOption-at_some}
+use Rattle.std.proofs.lemmas.Result.{err_from_is_err_and}
 use Rattle.model.specs.Model.{Ranged, Same}
-use Rattle.model.specs.Kinds.{nowhere, table_of}
-use Rattle.model.specs.declared.state.State.{State}
+use Rattle.model.specs.Kinds.{table_of}
 use Rattle.legend.specs.Legends.{names_of}
-use Rattle.reader.proofs.Exits.{at_exit}
+use Rattle.reader.proofs.Going.{sofar_start}
 use Rattle.reader.proofs.Judging.{accepts, rejects}
 use Rattle.reader.proofs.Rowing.{body_naming}
 use Rattle.reader.proofs.Whole.{whole_file, whole_ranged}
 use Rattle.reader.proofs.model_file.read_whole.Goals as goal
 
-pub returns-in_err-h : goal.returns-in_err-h
-returns-in_err-h c = at_exit _ _ c.from_residual.result _ c.from_residual.ensures.1 (rejects c.in_err-h.ensures)
+given : {A R : Type 0} (Q : A → Type 0) (o : Option A) → R → MatchOption o (R → ⊥) Q → IsSome o
+given Q None r never = absurd (never r)
+given Q (Some x) r q = refl
+
+pub returns-in_err-header : goal.returns-in_err-header
+returns-in_err-header c =
+    let p = err_from_is_err_and c.from_residual.result c.from_residual.ensures.1 in
+    rw (p.1, p.2) (rejects (c.in_err-header.ensures c.args.input.now (sofar_start c.new-cursor.ensures)))
 
 pub returns-in_err-legend : goal.returns-in_err-legend
 returns-in_err-legend c =
-    let h = c.in_ok-h.ensures in
-    at_exit _ _ c.from_residual-in_err-legend.result _ c.from_residual-in_err-legend.ensures.1 (rejects (c.in_err-legend.ensures _ _ h.1 h.0.0.0))
+    let input = c.args.input.now in
+    let h = c.in_ok-header.ensures input (sofar_start c.new-cursor.ensures) in
+    let p = err_from_is_err_and c.from_residual-in_err-legend.result c.from_residual-in_err-legend.ensures.1 in
+    rw (p.1, p.2) (rejects (c.in_err-legend.ensures input h))
 
-pub returns-in_err-body : goal.returns-in_err-body
-returns-in_err-body c =
-    let h = c.in_ok-h.ensures in
-    let l = c.in_ok-legend.ensures _ _ h.1 h.0.0.0 in
-    at_exit _ _ c.from_residual-in_err-body.result _ c.from_residual-in_err-body.ensures.1 (rejects (c.in_err-body.ensures.reads _ _ l.1 h.0.0.0 l.0))
+pub returns-in_err-total : goal.returns-in_err-total
+returns-in_err-total c =
+    let input = c.args.input.now in
+    let h = c.in_ok-header.ensures input (sofar_start c.new-cursor.ensures) in
+    let l = c.in_ok-legend.ensures input h in
+    let p = err_from_is_err_and c.from_residual-in_err-total.result c.from_residual-in_err-total.ensures.1 in
+    rw (p.1, p.2) (rejects (c.in_err-total.ensures.reads input _ _ l.1 l.0))
 
 pub returns-in_err-read_end : goal.returns-in_err-read_end
 returns-in_err-read_end c =
-    let h = c.in_ok-h.ensures in
-    let l = c.in_ok-legend.ensures _ _ h.1 h.0.0.0 in
-    let b = c.in_ok-body.ensures.reads _ _ l.1 h.0.0.0 l.0 in
-    at_exit _ _ c.from_residual-in_err-read_end.result _ c.from_residual-in_err-read_end.ensures.1
-    (rejects (c.in_err-read_end.ensures.reads _ _ b (body_naming _ _ _ (names_of c.in_ok-legend.legend) _ _ l.1 h.0.0.0) refl (omega arith) refl))
+    let input = c.args.input.now in
+    let header = c.in_ok-header.header in
+    let h = c.in_ok-header.ensures input (sofar_start c.new-cursor.ensures) in
+    let l = c.in_ok-legend.ensures input h in
+    let b = c.in_ok-total.ensures.reads input _ _ l.1 l.0 in
+    let p = err_from_is_err_and c.from_residual-in_err-read_end.result c.from_residual-in_err-read_end.ensures.1 in
+    rw (p.1, p.2) (rejects (c.in_err-read_end.ensures input _ _ b (body_naming _ _ _ (names_of c.in_ok-legend.legend) _ _ l.1 header.agents_ranged.0) refl (omega arith) refl))
 
--- the part of the states that were read
-module _ (n : ℕ) (xs : List State) (within : n ≤ length xs) where
-  part_long : length (take (n - 0) xs) ≡ n
-  part_long = length-take-le (n - 0) xs (omega arith) ∙ sub-zero n
-
-  part_copied : (t : ℕ) → t < n → get_or (take (n - 0) xs) t nowhere ≡ get_or xs t nowhere
-  part_copied t l = get_or-take (n - 0) xs t nowhere (omega arith)
-
-pub unreachable-requires : goal.unreachable-requires
-unreachable-requires c =
-    let h = c.in_ok-h.h in
-    let xs = c.in_ok-body.body.states in
-    let head = c.in_ok-h.ensures in
-    let l = c.in_ok-legend.ensures _ _ head.1 head.0.0.0 in
-    let few : h.states ≤ length xs = omega (arith, head.0.1.1, c.in_ok-body.ensures.kept.1) in
-    c.in-None.ensures (subst (λ (n : ℕ). Ranged (table_of n h.agents (take (h.states - 0) xs))) (sym (part_long h.states xs few))
-    (whole_ranged h.states h.agents h.marks (names_of c.in_ok-legend.legend) xs _ head.0 l.2 l.1 c.in_ok-body.ensures.kept.2 (part_copied h.states xs few)))
+pub unwrap-requires : goal.unwrap-requires
+unwrap-requires c =
+    let input = c.args.input.now in
+    let header = c.in_ok-header.header in
+    let xs = c.read_states.new.states in
+    let h = c.in_ok-header.ensures input (sofar_start c.new-cursor.ensures) in
+    let l = c.in_ok-legend.ensures input h in
+    let long : length xs ≡ header.states = c.read_states.auto.states ∙ length-take-le _ _ (omega (arith, header.states_ranged.1)) in
+    given _ c.from_states.result (subst (λ (n : ℕ). Ranged (table_of n header.agents xs)) (sym long) (whole_ranged header.states header.agents header.marks (names_of c.in_ok-legend.legend) xs (header.agents_ranged, header.states_ranged, header.marks_ranged) l.2 l.1 c.in_ok-total.ensures.kept)) c.from_states.ensures
 
 pub returns : goal.returns
 returns c =
     let input = c.args.input.now in
-    let h = c.in_ok-h.h in
-    let xs = c.in_ok-body.body.states in
+    let header = c.in_ok-header.header in
     let names = names_of c.in_ok-legend.legend in
-    let head = c.in_ok-h.ensures in
-    let l = c.in_ok-legend.ensures _ _ head.1 head.0.0.0 in
-    let b = c.in_ok-body.ensures.reads _ _ l.1 head.0.0.0 l.0 in
-    let e = c.in_ok-read_end.ensures in
-    let few : h.states ≤ length xs = omega (arith, head.0.1.1, c.in_ok-body.ensures.kept.1) in
-    let file = whole_file h.states h.agents h.marks names xs _ head.0 l.2 l.1 c.in_ok-body.ensures.kept.2 (part_copied h.states xs few)
-    input _ _ _ _ b (e.reads _ _ b (body_naming _ _ _ names _ _ l.1 head.0.0.0) refl (omega arith) refl) in (
-      e.within,
-      accepts file (subst (λ (n : ℕ). Same (table_of n h.agents (take (h.states - 0) xs)) (table_of c.in-Some.table.states c.in-Some.table.agents c.in-Some.table.rows)) (part_long h.states xs few)
-          c.in-Some.ensures.1),
-    )
+    let xs = c.read_states.new.states in
+    let h = c.in_ok-header.ensures input (sofar_start c.new-cursor.ensures) in
+    let l = c.in_ok-legend.ensures input h in
+    let b = c.in_ok-total.ensures.reads input _ _ l.1 l.0 in
+    let e = c.in_ok-read_end.ensures input _ _ b (body_naming _ _ _ names _ _ l.1 header.agents_ranged.0) refl (omega arith) refl in
+    let long : length xs ≡ header.states = c.read_states.auto.states ∙ length-take-le _ _ (omega (arith, header.states_ranged.1)) in
+    let made = MatchOption-at_some _ _ c.unwrap.result c.unwrap.ensures c.from_states.ensures in
+    accepts (whole_file header.states header.agents header.marks names xs (header.agents_ranged, header.states_ranged, header.marks_ranged) l.2 l.1 c.in_ok-total.ensures.kept b e)
+    (subst (λ (n : ℕ). Same (table_of n header.agents xs) (table_of c.unwrap.result.states c.unwrap.result.agents c.unwrap.result.rows)) long made.1)

@@ -1,61 +1,44 @@
-use Rattle.std.proofs.Common.{◌≡◌, ℕ, ◌+◌, ◌*◌, List, [], ◌∷◌, ◌++◌, length, sym, refl, ap, ◌∙◌, subst, arith}
+use Rattle.std.proofs.Common.{◌≡◌, ℕ, ◌+◌, List, [], ◌∷◌, ◌++◌, length, sym, refl, subst, arith}
 use Rattle.std.proofs.lemmas.List.{length_push}
+use Rattle.std.proofs.lemmas.Result.{err_from_is_err_and}
+use Rattle.file.specs.File.{Command}
 use Rattle.legend.specs.Names.{Lawful}
 use Rattle.legend.specs.Legends.{names_of}
 use Rattle.legend.proofs.Holding.{none_lawful}
-use Rattle.file.specs.File.{Command, begin, name, upto}
-use Rattle.reader.specs.Sofar.{Sofar, bytes_at, name_command, named}
-use Rattle.reader.proofs.Exits.{at_exit}
+use Rattle.reader.specs.Sofar.{Sofar, named, opening}
 use Rattle.reader.proofs.Naming.{name_due, names_more}
 use Rattle.reader.proofs.names.read_names.Goals as goal
 
-pub loop-i-init : goal.loop-i-init
-loop-i-init c =
-    let none = c.empty-legend.ensures in (
-      c.requires,
-      λ k n so some. (
-        subst (λ (l : List (List ℕ)). Sofar c.args.input.now 4 (begin k n c.args.marks ∷ []) (named k n c.args.marks l)) (sym none) so,
-        ap length none,
-        subst Lawful (sym none) none_lawful,
-      ),
-    )
-
-pub read_name-requires : goal.read_name-requires
-read_name-requires c = c.loop-i.invariant.0
+pub loop-init : goal.loop-init
+loop-init c input so =
+    let k = c.args.header.agents in
+    let n = c.args.header.states in
+    let m = c.args.header.marks in
+    let none = c.empty-legend.ensures in
+    let P : List (List ℕ) → Type 0 = λ l. Sofar input c.args.cursor.now.rest.now c.args.cursor.now.place (opening k n m l) (named k n m l) × (length l ≡ 0) × Lawful l in
+    subst P (sym none) (so, refl, none_lawful)
 
 pub returns-in_err-read_name : goal.returns-in_err-read_name
-returns-in_err-read_name c k n so some =
-    let inv = c.loop-i.invariant.1 k n so some in
-    at_exit _ _ c.from_residual.result _ c.from_residual.ensures.1
-    (c.in_err-read_name.ensures.reads _ _ inv.0 refl (name_due k n c.args.marks (names_of c.loop-i.legend) some (omega (arith, inv.1, c.loop-i-test.true))) refl inv.2)
+returns-in_err-read_name c input so =
+    let inv = c.loop.invariant input so in
+    let p = err_from_is_err_and c.from_residual.result c.from_residual.ensures.1 in
+    rw (p.1, p.2) (c.in_err-read_name.ensures input _ _ inv.0
+    (name_due _ _ c.args.header.marks (names_of c.loop.legend) c.args.header.agents_ranged.0 (omega (arith, inv.1, c.loop-test.true))) refl inv.2)
 
-pub loop-i-preserved : goal.loop-i-preserved
-loop-i-preserved c =
-    let input = c.args.input.now in
-    let m = c.args.marks in
-    let i = c.loop-i.i in
-    let names = names_of c.loop-i.legend in
-    let b = bytes_at input (4 + i * 10 + 2) 8 in
-    let told = c.in_ok-read_name.ensures in (
-      omega (arith, told.within),
-      λ k n so some.
-          let inv = c.loop-i.invariant.1 k n so some in
-          let next = told.reads _ _ inv.0 refl (name_due k n m names some (omega (arith, inv.1, c.loop-i-test.true))) refl inv.2 in
-          let same : (begin k n m ∷ upto (name_command names) i) ++ name (length names) b ∷ [] ≡ begin k n m ∷ upto (name_command (names_of c.read_name.new.legend)) (i + 1) =
-          ap (λ (j : ℕ). begin k n m ∷ (upto (name_command names) i ++ name j b ∷ [])) inv.1
-          ∙ ap (λ (l : List Command). begin k n m ∷ l) (names_more names b i inv.1)
-          ∙ ap (λ (l : List (List ℕ)). begin k n m ∷ upto (name_command l) (i + 1)) (sym next.1) in (
-            subst (λ (at : ℕ). Sofar input at (begin k n m ∷ upto (name_command (names_of c.read_name.new.legend)) (i + 1)) (named k n m (names_of c.read_name.new.legend))) (omega arith)
-                (subst (λ (l : List (List ℕ)). Sofar input (4 + i * 10 + 10) (begin k n m ∷ upto (name_command (names_of c.read_name.new.legend)) (i + 1)) (named k n m l)) (sym next.1)
-                (subst (λ (cs : List Command). Sofar input (4 + i * 10 + 10) cs (named k n m (names ++ b ∷ []))) same next.0)),
-            omega (arith, ap length next.1, length_push names b, inv.1),
-            next.2,
-          ),
+pub loop-preserved : goal.loop-preserved
+loop-preserved c input so =
+    let k = c.args.header.agents in
+    let n = c.args.header.states in
+    let m = c.args.header.marks in
+    let names = names_of c.loop.legend in
+    let inv = c.loop.invariant input so in
+    let told = c.in_ok-read_name.ensures input _ _ inv.0 (name_due k n m names c.args.header.agents_ranged.0 (omega (arith, inv.1, c.loop-test.true))) refl inv.2 in
+    let P : List (List ℕ) → Type 0 = λ l. Sofar input c.read_name.new.cursor.rest.now c.read_name.new.cursor.place (opening k n m l) (named k n m l) × (length l ≡ c.loop.counter + 1) × Lawful l in
+    subst P (sym told.2) (
+      subst (λ (cs : List Command). Sofar input c.read_name.new.cursor.rest.now c.read_name.new.cursor.place cs (named k n m (names ++ told.0 ∷ []))) (names_more k n m names told.0) told.1,
+      omega (arith, length_push names told.0, inv.1),
+      subst Lawful told.2 told.3,
     )
 
 pub returns : goal.returns
-returns c k n so some =
-    let inv = c.loop-i.invariant.1 k n so some in
-    let done : c.loop-i.i ≡ c.args.marks = omega (arith, c.loop-i-test.false, c.loop-i.auto.i-end) in
-    subst (λ (i : ℕ). Sofar c.args.input.now (4 + i * 10) (begin k n c.args.marks ∷ upto (name_command (names_of c.loop-i.legend)) i) (named k n c.args.marks (names_of c.loop-i.legend))
-    × (length (names_of c.loop-i.legend) ≡ i) × Lawful (names_of c.loop-i.legend)) done inv
+returns c input so = let inv = c.loop.invariant input so in (inv.0, omega (arith, inv.1, c.loop-test.false, c.loop.auto.counter-end), inv.2)

@@ -1,28 +1,17 @@
-use Rattle.std.proofs.Common.{◌≡◌, ℕ, ◌+◌, ◌-◌, ◌*◌, ◌^◌, ◌<◌, List, [], ◌∷◌, ◌++◌, length, get_or, sym, ap, ◌∙◌, subst, append_assoc, arith}
+use Rattle.std.proofs.Common.{◌≡◌, ℕ, ◌+◌, ◌-◌, ◌<◌, List, [], ◌∷◌, ◌++◌, length, get_or, take, drop, sym, ap, ◌∙◌, subst, append_assoc, arith, length-take-le}
+use Rattle.std.proofs.lemmas.List.{get_or_append_left}
+use Rattle.std.proofs.lemmas.Result.{err_from_is_err_and}
 use Rattle.model.specs.Model.{everyone, moves}
 use Rattle.model.specs.Kinds.{counts_at}
-use Rattle.file.specs.File.{Command, state, upto}
-use Rattle.file.specs.Reading.{Seen, after, Counts}
+use Rattle.file.specs.File.{Command, state, out, upto}
+use Rattle.file.specs.Reading.{Seen, after}
 use Rattle.file.proofs.Filing.{due_state}
-use Rattle.reader.specs.Heads.{HeadOf, Naming, out_command, state_commands, state_seen}
+use Rattle.reader.specs.Heads.{HeadOf, Naming, out_command}
 use Rattle.reader.specs.declared.head.Head.{Head}
 use Rattle.reader.specs.declared.header.Header.{Header}
 use Rattle.reader.specs.Sofar.{Sofar}
-use Rattle.reader.proofs.Exits.{at_exit, at_exit_made}
+use Rattle.reader.proofs.Naming.{upto_same}
 use Rattle.reader.proofs.outs.read_state.Goals as goal
-
-pub returns-in_err-head : goal.returns-in_err-head
-returns-in_err-head c = record {
-  kept = at_exit_made _ c.from_residual.result _ c.from_residual.ensures.1;
-  reads = λ cs s so n left states k m few.
-      at_exit _ _ c.from_residual.result _ c.from_residual.ensures.1
-      (c.in_err-head.ensures.reads cs s so n.going (due_state s n.going n.some n.all left states) k m);
-}
-
-pub read_outs-requires : goal.read_outs-requires
-read_outs-requires c =
-    let head = c.in_ok-head.ensures.head in
-    record { within = head.1; few = omega (arith, head.0.joint, head.0.counts.ranged.product) }
 
 -- what the state's own command leaves to come
 module _ (h : Header) (head : Head) (of : HeadOf h.agents h.marks head) (s : Seen) (n : Naming s) where
@@ -32,49 +21,56 @@ module _ (h : Header) (head : Head) (of : HeadOf h.agents h.marks head) (s : See
   lacks : s.k ≡ h.agents → moves everyone (counts_at head.state) s.k ≡ head.joint
   lacks k = ap (moves everyone (counts_at head.state)) k ∙ sym of.joint
 
-pub returns-in_err-state : goal.returns-in_err-state
-returns-in_err-state c = record {
-  kept = at_exit_made _ c.from_residual-in_err-state.result _ c.from_residual-in_err-state.ensures.1;
-  reads = λ cs s so n left states k m few.
-      let told = c.in_ok-head.ensures in
-      let head = c.in_ok-head.head in
-      let so1 = told.reads cs s so n.going (due_state s n.going n.some n.all left states) k m in
-      at_exit _ _ c.from_residual-in_err-state.result _ c.from_residual-in_err-state.ensures.1
-      (c.in_err-state.ensures.reads _ _ so1 (to_come c.args.h head told.head.0 s n) (lacks c.args.h head told.head.0 s n k) few);
-}
+-- outcomes in front of others
+module _ (xs ys : List ℕ) (joint : ℕ) (long : length xs ≡ joint) where
+  front_commands : upto (out_command xs) (length xs) ≡ upto (out_command (xs ++ ys)) joint
+  front_commands =
+      upto_same (out_command xs) (out_command (xs ++ ys)) (length xs) (λ j l. ap (λ (x : ℕ). out x ∷ []) (sym (get_or_append_left xs ys 0 j l))) ∙ ap (upto (out_command (xs ++ ys))) long
+
+  front_inside : (n j : ℕ) → ((i : ℕ) → i < length xs → get_or xs i 0 < n) → j < joint → get_or (xs ++ ys) j 0 < n
+  front_inside n j inside l = let within : j < length xs = omega (arith, long, l) in omega (arith, inside j within, get_or_append_left xs ys 0 j within)
+
+pub returns-in_err-read_outs-clause-reads : goal.returns-in_err-read_outs-clause-reads
+returns-in_err-read_outs-clause-reads c input cs s so n left states k m few =
+    let head = c.in_ok-state.field-0 in
+    let told = c.in_ok-state.ensures in
+    let so1 = told.reads input cs s so n.going (due_state s n.going n.some n.all left states) k m in
+    let long = length-take-le head.joint head.state.outcomes (omega (arith, told.head.joint, told.head.counts.ranged.product)) in
+    let p = err_from_is_err_and c.from_residual-in_err-read_outs.result c.from_residual-in_err-read_outs.ensures.1 in
+    rw (p.1, p.2) (c.in_err-read_outs.ensures.reads input _ _ so1 (to_come c.args.header head told.head s n) (lacks c.args.header head told.head s n k ∙ sym long) few)
 
 pub returns : goal.returns
 returns c =
-    let input = c.args.input.now in
-    let at = c.args.at in
-    let agents = c.args.h.agents in
-    let told = c.in_ok-head.ensures in
-    let head = c.in_ok-head.head in
-    let x = c.in_ok-state.state in
-    let of = told.head.0 in
-    let filled = c.in_ok-state.ensures.filled in
-    let joint : head.joint ≡ moves everyone (counts_at x) agents = of.joint ∙ ap (λ (l : List ℕ). moves everyone (λ a. get_or l a 0) agents) (sym filled.0.counts) in
+    let agents = c.args.header.agents in
+    let head = c.in_ok-state.field-0 in
+    let told = c.in_ok-state.ensures in
+    let read = c.in_ok-read_outs.ensures in
+    let xs = c.read_outs.new.outcomes in
+    let ys = drop head.joint head.state.outcomes in
+    let taken : length (take head.joint head.state.outcomes) ≡ head.joint = length-take-le head.joint head.state.outcomes (omega (arith, told.head.joint, told.head.counts.ranged.product)) in
+    let long : length xs ≡ head.joint = omega (arith, taken, c.read_outs.auto.outcomes) in
     record {
       kept = (
         record {
-          six = ap length filled.0.counts ∙ of.six;
-          declared = subst (λ (i : ℕ). i < 2 ^ c.args.h.marks) (sym filled.0.marks) of.declared;
-          counts = subst (Counts agents) (sym filled.0.counts) of.counts;
-          inside = λ j l. filled.0.inside j (omega arith);
+          six = told.head.six;
+          declared = told.head.declared;
+          counts = told.head.counts;
+          inside = λ j l. front_inside xs ys head.joint long c.args.header.states j read.inside (omega (arith, l, told.head.joint));
         },
-        joint,
-        filled.1,
+        told.head.joint,
       );
-      reads = λ cs s so n left states k m few.
-          let so1 = told.reads cs s so n.going (due_state s n.going n.some n.all left states) k m in
-          let so2 = c.in_ok-state.ensures.reads _ _ so1 (to_come c.args.h head of s n) (lacks c.args.h head of s n k) few in
-          let same : (cs ++ state head.state.marks head.state.counts ∷ []) ++ upto (out_command x) head.joint ≡ cs ++ state_commands agents x =
-          append_assoc cs (state head.state.marks head.state.counts ∷ []) (upto (out_command x) head.joint)
-          ∙ ap (λ (i : ℕ). cs ++ state i head.state.counts ∷ upto (out_command x) head.joint) (sym filled.0.marks)
-          ∙ ap (λ (l : List ℕ). cs ++ state x.marks l ∷ upto (out_command x) head.joint) (sym filled.0.counts)
-          ∙ ap (λ (j : ℕ). cs ++ state x.marks x.counts ∷ upto (out_command x) j) joint in
-          let none : moves everyone (counts_at head.state) s.k - head.joint ≡ 0 = omega (arith, lacks c.args.h head of s n k) in
-          subst (λ (l : List Command). Sofar input (at + 9 + head.joint * 2) l (state_seen s head.joint)) same
-          (subst (λ (i : ℕ). Sofar input (at + 9 + head.joint * 2) ((cs ++ state head.state.marks head.state.counts ∷ []) ++ upto (out_command x) head.joint)
-          (record { k = s.k; n = s.n; m = s.m; names = s.names; states = s.states + 1; left = i; outs = s.outs + head.joint; ended = s.ended })) none so2);
+      reads = λ input cs s so n left states k m few.
+          let so1 = told.reads input cs s so n.going (due_state s n.going n.some n.all left states) k m in
+          let none = lacks c.args.header head told.head s n k in
+          let so2 = read.reads input _ _ so1 (to_come c.args.header head told.head s n) (none ∙ sym taken) few in
+          let own = state head.state.marks head.state.counts in
+          let same : (cs ++ own ∷ []) ++ upto (out_command xs) (length xs) ≡ cs ++ own ∷ upto (out_command (xs ++ ys)) (moves everyone (counts_at head.state) agents) =
+          append_assoc cs (own ∷ []) (upto (out_command xs) (length xs))
+          ∙ ap (λ (l : List Command). cs ++ own ∷ l) (front_commands xs ys head.joint long ∙ ap (upto (out_command (xs ++ ys))) told.head.joint) in
+          let P : List Command → ℕ → ℕ → Type 0 = λ l i j.
+          Sofar input c.read_outs.new.cursor.rest.now c.read_outs.new.cursor.place l (record { k = s.k; n = s.n; m = s.m; names = s.names; states = s.states + 1; left = i; outs = s.outs + j; ended = s.ended }) in
+          let left_none : moves everyone (counts_at head.state) s.k - length xs ≡ 0 = omega (arith, none, long) in
+          subst (λ (l : List Command). P l 0 head.joint) same
+          (subst (λ (i : ℕ). P ((cs ++ own ∷ []) ++ upto (out_command xs) (length xs)) i head.joint) left_none
+          (subst (P ((cs ++ own ∷ []) ++ upto (out_command xs) (length xs)) (moves everyone (counts_at head.state) s.k - length xs)) long so2));
     }

@@ -1,27 +1,28 @@
-use Rattle.std.proofs.Common.{◌≡◌, ℕ, List, ◌∷◌, ◌++◌, get_or, drop, refl, ap, ◌∙◌, arith}
+use Rattle.std.proofs.Common.{◌≡◌, ℕ, ◌+◌, List, [], ◌∷◌, ◌++◌, length, get_or, Option, Some, None, MatchOption, MatchResult, refl, ◌∙◌, arith}
+use Rattle.std.specs.Option.{ok_or}
 use Rattle.file.specs.File.{begin, encode}
-use Rattle.file.specs.Reading.{Fails}
-use Rattle.reader.specs.Sofar.{Stands}
-use Rattle.reader.proofs.Exits.{at_exit}
-use Rattle.reader.proofs.Going.{row, sofar_start, sofar_more, sofar_refused, command_refused}
+use Rattle.file.specs.Reading.{Keeps, Refused, nothing}
+use Rattle.reader.specs.Faults.{rule_number}
+use Rattle.reader.specs.Sofar.{Sofar, named, opening}
+use Rattle.reader.specs.declared.fault.FileFault.{FileFault}
+use Rattle.reader.specs.declared.fault.FileRule.TheVariants as rule
+use Rattle.reader.specs.declared.header.Header.{Header}
+use Rattle.reader.proofs.Going.{sofar_more, breaks}
+use Rattle.reader.proofs.Spelling.{spells_begin}
 use Rattle.reader.proofs.header.begin.read_begin.Goals as goal
 
-four : (input : List ℕ) → Stands input 0 1 3 → input ≡ encode (begin (get_or input 1 0) (get_or input 2 0) (get_or input 3 0)) ++ drop 4 input
-four input there = row input 0 4 (omega (arith, there.whole)) ∙ ap (λ (b : ℕ). b ∷ get_or input 1 0 ∷ get_or input 2 0 ∷ get_or input 3 0 ∷ drop 4 input) there.is
-
-pub returns-in_err-command : goal.returns-in_err-command
-returns-in_err-command c =
-    at_exit _ _ c.from_residual.result _ c.from_residual.ensures.1 (command_refused (sofar_start c.args.input.now) 1 3 _ _ refl refl refl c.in_err-command.ensures)
-
-pub returns-then-not-in_range : goal.returns-then-not-in_range
-returns-then-not-in_range c =
-    let input = c.args.input.now in
-    let c1 = begin (get_or input 1 0) (get_or input 2 0) (get_or input 3 0) in
-    sofar_refused (sofar_start input) refl (Fails.breaks c1 (drop 4 input) tt (four input c.in_ok-command.ensures) refl c.if-not-in_range.ensures.1)
+module _ {input rest : List ℕ} {place : ℕ} (so : Sofar input rest place [] nothing) (xs rest' : List ℕ) (place' : ℕ) (f : FileFault) (took : rest ≡ 1 ∷ xs ++ rest') (three : length xs ≡ 3) (moved : place' ≡ place + 1 + 3)
+    (fault : (f.rule ≡ rule.Begin) × (f.place ≡ place)) where
+  begun : (o : Option Header) → MatchOption o (Keeps nothing (begin (get_or xs 0 0) (get_or xs 1 0) (get_or xs 2 0)) → ⊥)
+      (λ h. (h.agents ≡ get_or xs 0 0) × (h.states ≡ get_or xs 1 0) × (h.marks ≡ get_or xs 2 0)) →
+      MatchResult (ok_or o f) (λ h. Sofar input rest' place' (opening h.agents h.states h.marks []) (named h.agents h.states h.marks [])) (λ g. Refused input (rule_number g.rule) g.place)
+  begun None never =
+      rw fault.0 (breaks so (begin (get_or xs 0 0) (get_or xs 1 0) (get_or xs 2 0)) rest' tt refl took (spells_begin xs three) never fault.1)
+  begun (Some h) same =
+      let spelled : 1 ∷ xs ≡ encode (begin h.agents h.states h.marks) = spells_begin xs three ∙ grind arith in
+      sofar_more so (begin h.agents h.states h.marks) tt refl (h.agents_ranged, h.states_ranged, h.marks_ranged) took spelled (omega (arith, moved, three))
 
 pub returns : goal.returns
-returns c =
-    let input = c.args.input.now in
-    let there = c.in_ok-command.ensures in
-    let keeps = c.if-not-in_range.ensures.0 tt in
-    (keeps, sofar_more (sofar_start input) (begin (get_or input 1 0) (get_or input 2 0) (get_or input 3 0)) 4 tt refl keeps (four input there) refl (omega (arith, there.whole)))
+returns c input so =
+    let took = c.in_ok-agents.ensures in
+    rw c.ok_or.ensures.value (begun so _ _ _ _ took.0 took.1 took.2 c.at.ensures c.new.result c.new.ensures)

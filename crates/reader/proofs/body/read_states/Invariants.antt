@@ -1,0 +1,17 @@
+use Rattle.std.proofs.Common.{◌≡◌, ℕ, ◌*◌, ◌<◌, ◌≤◌, List, ◌++◌, length, get_or}
+use Rattle.model.specs.Kinds.{nowhere}
+use Rattle.file.specs.File.{Command, upto}
+use Rattle.reader.specs.Bodies.{row_commands}
+use Rattle.reader.specs.Heads.{Kept, body_seen}
+use Rattle.reader.specs.Sofar.{Reached}
+use Rattle.reader.proofs.body.read_states.Given as goal
+
+abbrev pub invariant-loop-state : goal.invariant-loop-state
+invariant-loop-state l =
+    let k = l.header.agents in
+    let n = l.header.states in
+    let m = l.header.marks in
+    (l.total ≤ l.state-index * 64) ×
+    ((t : ℕ) → t < l.state-index → Kept n k m (get_or l.states t nowhere)) ×
+    ((input : List ℕ) (cs : List Command) (names : List (List ℕ)) → length names ≡ m → Reached input l.initial.cursor cs (body_seen k n m names 0 0) →
+    Reached input l.cursor (cs ++ upto (row_commands k l.states) l.state-index) (body_seen k n m names l.state-index l.total))
