@@ -1,5 +1,5 @@
+pub mod Tests
 pub mod Faults
-pub mod Classes
 pub mod Shown
 pub mod Vocabularies
 pub mod Readings

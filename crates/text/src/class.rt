@@ -1,41 +1,39 @@
-//! Classes of bytes, and runs of one class.
-ghost use Rattle.std.specs.Prelude.{◌≤◌, length, Decides};
-ghost use Rattle.grammar.specs.Tokens.{Run};
-ghost use Rattle.text.specs.Classes.{Of};
+//! Runs of bytes of one class.
+ghost use Rattle.std.specs.Prelude.{◌≤◌, length};
+ghost use Rattle.legend.specs.Names.{LetterOrDigit};
+ghost use Rattle.grammar.specs.Tokens.{Blank, Digit, Run};
+ghost use Rattle.text.specs.Tests.{Passes};
 
-/// A class of bytes.
-#[derive(Clone, Copy)]
-pub(crate) enum Class {
-    /// A space or the end of a line.
-    Blank,
-    /// `a` to `z`.
-    Letter,
-    /// `0` to `9`.
-    Digit,
-    /// What goes on in a name: a letter or a digit.
-    Inner,
-}
-
-/// Whether a byte is of a class.
-pub(crate) fn is(class: Class, b: u8) -> bool
-    ensures { Decides result (Of class b) }
+/// The end of the bytes that stand from a place on and are in a class.
+fn run<F: Fn(u8) -> bool>(text: &[u8], from: usize, is_in: F) -> usize
+    requires within { from ≤ length text.now }
+    requires callable { F.IsAlwaysCallable is_in }
+    ensures { Passes (F.post is_in) text.now from result }
 {
-    match class {
-        Class::Blank => b == b' ' || b == b'\n',
-        Class::Letter => b >= b'a' && b <= b'z',
-        Class::Digit => b >= b'0' && b <= b'9',
-        Class::Inner => (b >= b'a' && b <= b'z') || (b >= b'0' && b <= b'9'),
-    }
+    let rest = &text[from..];
+    from + rest.iter().position(|b| !is_in(*b)).unwrap_or(rest.len())
 }
 
-/// The end of the bytes of a class that stand from a place on.
-pub(crate) fn run(text: &[u8], from: usize, class: Class) -> usize
+/// The end of the blanks that stand from a place on.
+pub(crate) fn past_blanks(text: &[u8], from: usize) -> usize
     requires { from ≤ length text.now }
-    ensures { Run (Of class) text.now from result }
+    ensures { Run Blank text.now from result }
 {
-    let mut end = from;
-    while end < text.len() && is(class, text[end]) {
-        end += 1;
-    }
-    end
+    run(text, from, |b| matches!(b, b' ' | b'\n'))
+}
+
+/// The end of the letters and digits that stand from a place on.
+pub(crate) fn past_word(text: &[u8], from: usize) -> usize
+    requires { from ≤ length text.now }
+    ensures { Run LetterOrDigit text.now from result }
+{
+    run(text, from, |b| b.is_ascii_lowercase() || b.is_ascii_digit())
+}
+
+/// The end of the digits that stand from a place on.
+pub(crate) fn past_digits(text: &[u8], from: usize) -> usize
+    requires { from ≤ length text.now }
+    ensures { Run Digit text.now from result }
+{
+    run(text, from, |b| b.is_ascii_digit())
 }

@@ -4,7 +4,7 @@ ghost use Rattle.grammar.specs.Tokens.{Tok, Sign, Word, TokAt, Strange};
 ghost use Rattle.text.specs.declared.fault.TextRule.TheVariants as rule;
 ghost use Rattle.text.specs.Shown.{shown, Proper};
 
-use crate::class::{Class, is, run};
+use crate::class::{past_blanks, past_digits, past_word};
 use crate::fault::{TextFault, TextRule};
 use crate::terms::coalition;
 use crate::token::{Read, Token};
@@ -44,7 +44,7 @@ pub(crate) fn scan(text: &[u8], from: usize) -> Result<Read, TextFault>
     requires { from ≤ length text.now }
     ensures { MatchResult result (λ x. TokAt text.now from x.place x.next (shown x.token) × Proper x.token) (λ f. (f.rule ≡ rule.Token) × Strange text.now from f.place) }
 {
-    let place = run(text, from, Class::Blank);
+    let place = past_blanks(text, from);
     if place == text.len() {
         return Ok(Read {
             token: Token::End,
@@ -53,28 +53,26 @@ pub(crate) fn scan(text: &[u8], from: usize) -> Result<Read, TextFault>
         });
     }
     let b = text[place];
-    if is(Class::Letter, b) {
-        let next = run(text, place, Class::Inner);
+    if b.is_ascii_lowercase() {
+        let next = past_word(text, place);
         let token = word(&text[place..next]);
         return Ok(Read { token, place, next });
     }
-    if is(Class::Digit, b) {
-        let next = run(text, place, Class::Digit);
+    if b.is_ascii_digit() {
+        let next = past_digits(text, place);
         let digits = &text[place..next];
         if coalition(digits).is_some() {
             let token = Token::Agents(digits);
             return Ok(Read { token, place, next });
         }
     }
-    match sign(b) {
-        Some(token) => Ok(Read {
-            token,
-            place,
-            next: place + 1,
-        }),
-        None => Err(TextFault {
-            rule: TextRule::Token,
-            place,
-        }),
-    }
+    let token = sign(b).ok_or(TextFault {
+        rule: TextRule::Token,
+        place,
+    })?;
+    Ok(Read {
+        token,
+        place,
+        next: place + 1,
+    })
 }

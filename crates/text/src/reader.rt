@@ -8,7 +8,7 @@ ghost use Rattle.text.specs.Faults.{rule_number};
 ghost use Rattle.text.specs.Vocabularies.{terms_of};
 ghost use Rattle.text.specs.Readings.{Spare, Stated, Parted};
 
-use crate::class::{Class, run};
+use crate::class::past_blanks;
 use crate::fault::{TextFault, TextRule};
 use crate::lexer::scan;
 use crate::parts::{
@@ -36,7 +36,7 @@ pub(crate) fn state(
     if allow == 0 {
         return Err(TextFault {
             rule: TextRule::Depth,
-            place: run(text, from, Class::Blank),
+            place: past_blanks(text, from),
         });
     }
     let read = scan(text, from)?;

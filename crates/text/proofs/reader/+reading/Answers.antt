@@ -126,7 +126,7 @@ path-returns-in-Until t c =
 
 pub state-returns-then-allow-eq0 : goal.state-returns-then-allow-eq0
 state-returns-then-allow-eq0 t c =
-    wrong_at 0 (omega (arith, c.if-allow-eq0.true)) (too_deep c.run.ensures)
+    wrong_at 0 (omega (arith, c.if-allow-eq0.true)) (too_deep c.past_blanks.ensures)
 
 pub state-returns-in_err-read : goal.state-returns-in_err-read
 state-returns-in_err-read t c =
