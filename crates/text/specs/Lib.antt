@@ -1,3 +1,5 @@
+pub mod Sizes
+pub mod Cursors
 pub mod Tests
 pub mod Faults
 pub mod Shown

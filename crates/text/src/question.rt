@@ -9,26 +9,27 @@ ghost use Rattle.grammar.specs.Grammar.{vocabulary};
 ghost use Rattle.grammar.specs.Texts.{Accepts, Rejects};
 ghost use Rattle.text.specs.Faults.{rule_number};
 ghost use Rattle.text.specs.Vocabularies.{terms_of};
-ghost use Rattle.text.specs.Readings.{Spare};
 ghost use Rattle.text.specs.Parsing.{Parsed, Refuses};
 
+use crate::cursor::Cursor;
 use crate::fault::{TextFault, TextRule};
-use crate::parts::{Mark, due};
-use crate::reader::state;
+use crate::parser::Parser;
+use crate::parts::Mark;
 use crate::terms::Terms;
 use legend::Legend;
 use list::List;
 use logic::line::Line;
 
-/// Reads a state and the end of the text after it, into an empty list with a place for each byte.
-fn whole(text: &[u8], terms: &Terms, lines: &mut List<Line>) -> Result<(), TextFault>
-    requires spare { Spare text.now 0 lines.old }
-    requires empty { lines.old.count ≡ 0 }
-    ensures { MatchResult result (λ _. (f : Formula) × Accepts (terms_of terms.now) text.now f × (question (items lines.new) ≡ flatten f [])) (λ f. Rejects (terms_of terms.now) text.now (rule_number f.rule) f.place) }
-{
-    let done = state(text, 0, 32, terms, lines)?;
-    due(text, done.next, Mark::End)?;
-    Ok(())
+impl<'a, 'b> Parser<'a, 'b> {
+    /// Reads a state and the end of the text after it.
+    fn whole(&mut self) -> Result<(), TextFault>
+        requires start { self.old.cursor.at ≡ 0 }
+        requires empty { self.old.lines.count ≡ 0 }
+        ensures { MatchResult result (λ _. (f : Formula) × Accepts (terms_of self.old.terms) self.old.cursor.text.now f × (question (items self.new.lines) ≡ flatten f [])) (λ f. Rejects (terms_of self.old.terms) self.old.cursor.text.now (rule_number f.rule) f.place) }
+    {
+        self.state(32)?;
+        self.cursor.due(Mark::End)
+    }
 }
 
 /// Reads a text that speaks of the legend's names and of so many agents, and makes the list hold just the lines of the formula that it spells;
@@ -54,13 +55,14 @@ pub fn parse(
         agents,
     };
     let mut places = [Line::True; 4096];
-    let mut draft = List::empty(&mut places);
-    whole(text, &terms, &mut draft)?;
-    match lines.fill(draft.items()) {
-        Ok(()) => Ok(()),
-        Err(_) => Err(TextFault {
-            rule: TextRule::Places,
-            place: 0,
-        }),
-    }
+    let mut parser = Parser {
+        cursor: Cursor { text, at: 0 },
+        terms,
+        lines: List::empty(&mut places),
+    };
+    parser.whole()?;
+    lines.fill(parser.lines.items()).map_err(|_| TextFault {
+        rule: TextRule::Places,
+        place: 0,
+    })
 }

@@ -46,13 +46,15 @@ pub(crate) fn agents(digits: &[u8], count: u8, place: usize) -> Result<Coalition
         })
 }
 
-/// The mark that a word names, or a fault at its place.
-pub(crate) fn mark(terms: &Terms, word: &[u8], place: usize) -> Result<u8, TextFault>
-    requires { (i : ℕ) → i < length word.now → LetterOrDigit (slice_index word.now i) }
-    ensures { MatchResult result (λ m. (m < (terms_of terms.now).marks) × ((terms_of terms.now).word m ≡ word.now)) (λ f. (f.rule ≡ rule.Name) × (f.place ≡ place) × ((i : ℕ) → i < (terms_of terms.now).marks → (terms_of terms.now).word i ≢ word.now)) }
-{
-    terms.legend.find(word).ok_or(TextFault {
-        rule: TextRule::Name,
-        place,
-    })
+impl Terms {
+    /// The mark that a word names, or a fault at its place.
+    pub(crate) fn mark(&self, word: &[u8], place: usize) -> Result<u8, TextFault>
+        requires { (i : ℕ) → i < length word.now → LetterOrDigit (slice_index word.now i) }
+        ensures { MatchResult result (λ m. (m < (terms_of self.now).marks) × ((terms_of self.now).word m ≡ word.now)) (λ f. (f.rule ≡ rule.Name) × (f.place ≡ place) × ((i : ℕ) → i < (terms_of self.now).marks → (terms_of self.now).word i ≢ word.now)) }
+    {
+        self.legend.find(word).ok_or(TextFault {
+            rule: TextRule::Name,
+            place,
+        })
+    }
 }

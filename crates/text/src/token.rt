@@ -19,10 +19,9 @@ pub(crate) enum Token<'a> {
     End,
 }
 
-/// A token, the place of its first byte, and the place after its last.
+/// A token that was read, and the place of its first byte.
 #[derive(Clone, Copy)]
 pub(crate) struct Read<'a> {
     pub(crate) token: Token<'a>,
     pub(crate) place: usize,
-    pub(crate) next: usize,
 }

@@ -6,16 +6,16 @@ use Rattle.grammar.specs.Grammar.{joint_tok}
 use Rattle.grammar.specs.Parts.{Miss}
 use Rattle.text.specs.Shown.{shown}
 use Rattle.text.proofs.Sights.{seen}
-use Rattle.text.proofs.parts.connective.Goals as goal
-use Rattle.text.proofs.parts.connective.Goals.{After-undue}
+use Rattle.text.proofs.cursor.Cursor.connective.Goals as goal
+use Rattle.text.proofs.cursor.Cursor.connective.Goals.{After-undue}
 
 unlike : (c : After-undue) (j : Joint) → shown c.in_ok-read.read.token ≡ joint_tok j → ⊥
 unlike c joint.And e = c.in_default.not-And (seen _ e)
 unlike c joint.Or e = c.in_default.not-Or (seen _ e)
 
-pub returns-in_default : goal.returns-in_default
-returns-in_default c = (
+pub returns-in_default-clause-cases : goal.returns-in_default-clause-cases
+returns-in_default-clause-cases c = (
   c.undue.ensures.rule,
-  subst (λ (p : ℕ). Miss c.args.text.now c.args.from (λ (t : Tok). (j : Joint) × (t ≡ joint_tok j)) p) (sym c.undue.ensures.place)
-      (Miss.other _ _ c.in_ok-read.ensures.0 (λ h. unlike c h.0 h.1)),
+  subst (λ (p : ℕ). Miss c.args.self.now.text.now c.args.self.now.at (λ (t : Tok). (j : Joint) × (t ≡ joint_tok j)) p) (sym c.undue.ensures.place)
+      (Miss.other _ _ c.in_ok-read.ensures.cases.0 (λ h. unlike c h.0 h.1)),
 )

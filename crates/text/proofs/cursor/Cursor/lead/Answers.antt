@@ -7,17 +7,17 @@ use Rattle.text.specs.declared.parts.Lead.TheVariants as lead
 use Rattle.text.specs.Shown.{shown}
 use Rattle.text.specs.Readings.{lead_tok}
 use Rattle.text.proofs.Sights.{seen}
-use Rattle.text.proofs.parts.path_lead.Goals as goal
-use Rattle.text.proofs.parts.path_lead.Goals.{After-undue}
+use Rattle.text.proofs.cursor.Cursor.lead.Goals as goal
+use Rattle.text.proofs.cursor.Cursor.lead.Goals.{After-undue}
 
 unlike : (c : After-undue) (l : Lead) → shown c.in_ok-read.read.token ≡ lead_tok l → ⊥
 unlike c (lead.Onward ahead.Next) e = c.in_default.not-Next (seen _ e)
 unlike c (lead.Onward ahead.Always) e = c.in_default.not-Always (seen _ e)
 unlike c lead.Until e = c.in_default.not-Open (seen _ e)
 
-pub returns-in_default : goal.returns-in_default
-returns-in_default c = (
+pub returns-in_default-clause-cases : goal.returns-in_default-clause-cases
+returns-in_default-clause-cases c = (
   c.undue.ensures.rule,
-  subst (λ (p : ℕ). Miss c.args.text.now c.args.from (λ (t : Tok). (l : Lead) × (t ≡ lead_tok l)) p) (sym c.undue.ensures.place)
-      (Miss.other _ _ c.in_ok-read.ensures.0 (λ h. unlike c h.0 h.1)),
+  subst (λ (p : ℕ). Miss c.args.self.now.text.now c.args.self.now.at (λ (t : Tok). (l : Lead) × (t ≡ lead_tok l)) p) (sym c.undue.ensures.place)
+      (Miss.other _ _ c.in_ok-read.ensures.cases.0 (λ h. unlike c h.0 h.1)),
 )
