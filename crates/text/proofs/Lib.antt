@@ -6,4 +6,3 @@ mod Runs
 mod Sights
 mod Steps
 mod Wholes
-mod Words

@@ -1,23 +1,19 @@
 -- A whole text is accepted or refused, for one reason.
-use Rattle.std.proofs.Common.{◌≡◌, ℕ, ◌≤◌, [], ◌∷◌, length, Bor, Result, Ok, Err, IsErrAnd, MatchResult, refl, sym, subst, arith}
+use Rattle.std.proofs.Common.{◌≡◌, ℕ, [], ◌∷◌, Bor, Result, Ok, Err, IsErrAnd, MatchResult, refl, sym, subst}
 use mathlib.Core.List as L
-use Rattle.logic.specs.Logic.{Formula}
-use Rattle.grammar.specs.Tokens.{Tok, t_end, Lexes}
+use Rattle.grammar.specs.Tokens.{t_end, Lexes}
 use Rattle.grammar.specs.Grammar.{Vocabulary, print, deepest, sentence}
-use Rattle.grammar.specs.Texts.{Fails, Accepts, Rejects}
+use Rattle.grammar.specs.Texts.{Accepts, Rejects}
 use Rattle.grammar.specs.Parts.{Wrong, Miss}
 use Rattle.grammar.proofs.Frames.{lexes_more, lift, frame_whole}
 use Rattle.grammar.proofs.Dues.{only_end, due_end}
 use Rattle.grammar.proofs.Once.{rejected, accepted}
 use Rattle.text.specs.declared.fault.TextFault.{TextFault}
-use Rattle.text.specs.declared.fault.TextRule.{TextRule}
 use Rattle.text.specs.declared.fault.TextRule.TheVariants as rule
 use Rattle.text.specs.Faults.{rule_number}
 use Rattle.text.specs.declared.parser.Parser.{Parser}
-use Rattle.text.specs.Sizes.{most_bytes}
 use Rattle.text.specs.Vocabularies.{terms_of}
 use Rattle.text.specs.Readings.{Stated, Faulty}
-use Rattle.text.specs.Parsing.{Refuses}
 use Rattle.text.proofs.Exits.{astray}
 use Rattle.text.proofs.Steps.{reads_state}
 use Rattle.text.proofs.Naming.{words_apart}
@@ -52,22 +48,6 @@ whole_state {p} {q} {to = to} start h e =
     let V = terms_of p.terms in
     let last = subst (λ (x : Bor (L.List ℕ)). Lexes x.now q.cursor.at (t_end ∷ []) to) h.spent.text e in
     accepted V (words_apart p.terms.legend p.terms.agents) (record { over = h.ends.over; to = to; lexed = lexes_more p.cursor.text.now 0 q.cursor.at to (print V.word 32 h.formula) (t_end ∷ []) (read_first start h) last })
-
-fails_few : {V : Vocabulary} {W : Formula → L.List Tok} {text : L.List ℕ} {ts : L.List Tok} {from p n : ℕ} → Fails V W text ts from p n → n ≤ 14
-fails_few (Fails.deep g s b) = omega arith
-fails_few (Fails.strange s b) = omega arith
-fails_few (Fails.undue s q t b a l) = omega arith
-fails_few (Fails.unknown q w b g none) = omega arith
-fails_few (Fails.missing q A b g none) = omega arith
-
--- the rule of a fault in a text that isn't too long
-pub refuses : {V : Vocabulary} {text : L.List ℕ} (room : ℕ) (r : TextRule) {place : ℕ} → length text ≤ most_bytes → Rejects V text (rule_number r) place → Refuses V text room r place
-refuses room rule.Token h x = (h, x)
-refuses room rule.Name h x = (h, x)
-refuses room rule.Agent h x = (h, x)
-refuses room rule.Depth h x = (h, x)
-refuses room rule.Length h x = absurd (omega (arith, fails_few x.refused.fails))
-refuses room rule.Places h x = absurd (omega (arith, fails_few x.refused.fails))
 
 -- what `map_err` leaves of a result
 pub at_map_err : {T E D : Type 0} (A : T → Type 0) (B : E → Type 0) (R : E → D → Type 0) (P : T → Type 0) (Q : D → Type 0) (r : Result T E) (s : Result T D) →
