@@ -1,5 +1,5 @@
 -- What operators do to vocabularies and lines, and small steps of the readers.
-use Rattle.std.proofs.Common.{◌≡◌, ℕ, ◌^◌, ◌<◌, ◌∷◌, refl, subst}
+use Rattle.std.proofs.Common.{◌≡◌, ℕ, ◌^◌, ◌<◌, [], ◌∷◌, refl, subst}
 use mathlib.Core.List as L
 use Rattle.logic.specs.Logic.{Formula}
 use Rattle.logic.specs.Logic as logic
@@ -9,7 +9,7 @@ use Rattle.grammar.specs.declared.Joint.{Joint}
 use Rattle.grammar.specs.declared.Joint.TheVariants as joint
 use Rattle.grammar.specs.declared.Ahead.{Ahead}
 use Rattle.grammar.specs.declared.Ahead.TheVariants as ahead
-use Rattle.grammar.specs.Tokens.{Tok, t_end}
+use Rattle.grammar.specs.Tokens.{Tok, t_end, Lexes}
 use Rattle.grammar.specs.Grammar.{Vocabulary, Over, joined_by, ahead_by, ahead_tok}
 use Rattle.grammar.specs.Parts.{Miss}
 use Rattle.grammar.proofs.Dues.{Leads}
@@ -43,6 +43,10 @@ no_lead (Miss.other q t at h) = Miss.other q t at (λ l. h (led l))
     led : Leads t → (l : Lead) × (t ≡ lead_tok l)
     led (Leads.onward h e) = (lead.Onward h, e)
     led (Leads.opens e) = (lead.Until, e)
+
+-- what begins a path, when it is known
+pub lead_is : {text : L.List ℕ} {from to : ℕ} {x y : Lead} → x ≡ y → Lexes text from (lead_tok x ∷ []) to → Lexes text from (lead_tok y ∷ []) to
+lead_is {text} {from} {to} e l = subst (λ (z : Lead). Lexes text from (lead_tok z ∷ []) to) e l
 
 -- one level more
 pub stated_at : {d e : ℕ} {p q : Parser} {at : ℕ} → d ≡ e → Stated d p q at → Stated e p q at

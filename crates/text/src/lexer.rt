@@ -6,9 +6,9 @@ ghost use Rattle.text.specs.Cursors.{Onward};
 ghost use Rattle.text.specs.Shown.{shown, Proper};
 
 use crate::cursor::Cursor;
-use crate::fault::{TextFault, TextRule};
+use crate::fault::TextFault;
 use crate::terms::coalition;
-use crate::token::{Read, Token};
+use crate::token::{Read, Token, undue};
 
 /// The token that is a single sign.
 fn sign(b: u8) -> Option<Token<'static>>
@@ -69,10 +69,7 @@ impl<'a> Cursor<'a> {
                 return Ok(Read { token, place });
             }
         }
-        let token = sign(b).ok_or(TextFault {
-            rule: TextRule::Token,
-            place,
-        })?;
+        let token = sign(b).ok_or(undue(place))?;
         self.at = place + 1;
         Ok(Read { token, place })
     }

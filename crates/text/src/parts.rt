@@ -13,9 +13,9 @@ ghost use Rattle.text.specs.Vocabularies.{terms_of};
 ghost use Rattle.text.specs.Readings.{mark_tok, lead_tok, joint_line, ahead_line};
 
 use crate::cursor::Cursor;
-use crate::fault::{TextFault, TextRule};
-use crate::terms::{Terms, agents};
-use crate::token::Token;
+use crate::fault::TextFault;
+use crate::terms::Terms;
+use crate::token::{Token, undue};
 use grammar::{Ahead, Joint};
 use logic::line::Line;
 use sets::coalition::Coalition;
@@ -56,17 +56,8 @@ pub(crate) fn path_line(ahead: Ahead, members: Coalition, a: u16) -> Line
     }
 }
 
-/// A token that is not due, or none.
-pub(crate) fn undue(place: usize) -> TextFault
-    ensures rule { result.rule ≡ rule.Token }
-    ensures place { result.place ≡ place }
-{
-    TextFault {
-        rule: TextRule::Token,
-        place,
-    }
-}
-
+// kept: a derived `==` compares the bytes that tokens borrow, and the grammar tells agents by their number.
+/// Whether a token is this one.
 fn is_mark(token: Token, mark: Mark) -> bool
     ensures { Decides result (shown token.entry ≡ mark_tok mark) }
 {
@@ -129,7 +120,7 @@ impl<'a> Cursor<'a> {
         match read.token {
             Token::Greater => Ok(Coalition::new(0)),
             Token::Agents(digits) => {
-                let members = agents(digits, terms.agents, read.place)?;
+                let members = terms.members(digits, read.place)?;
                 self.due(Mark::Greater)?;
                 Ok(members)
             }

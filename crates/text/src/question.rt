@@ -20,6 +20,12 @@ use legend::Legend;
 use list::List;
 use logic::line::Line;
 
+/// How long a text may be.
+const MOST_BYTES: usize = 4096;
+
+/// How deep a state may stand.
+const DEEPEST: u8 = 32;
+
 impl<'a, 'b> Parser<'a, 'b> {
     /// Reads a state and the end of the text after it.
     fn whole(&mut self) -> Result<(), TextFault>
@@ -27,7 +33,7 @@ impl<'a, 'b> Parser<'a, 'b> {
         requires empty { self.old.lines.count ≡ 0 }
         ensures { MatchResult result (λ _. (f : Formula) × Accepts (terms_of self.old.terms) self.old.cursor.text.now f × (question (items self.new.lines) ≡ flatten f [])) (λ f. Rejects (terms_of self.old.terms) self.old.cursor.text.now (rule_number f.rule) f.place) }
     {
-        self.state(32)?;
+        self.state(DEEPEST)?;
         self.cursor.due(Mark::End)
     }
 }
@@ -44,17 +50,17 @@ pub fn parse(
     ensures named { lines.new.places.ghost_name ≡ lines.old.places.ghost_name }
 {
     lines.clear();
-    if text.len() > 4096 {
+    if text.len() > MOST_BYTES {
         return Err(TextFault {
             rule: TextRule::Length,
-            place: 4096,
+            place: MOST_BYTES,
         });
     }
     let terms = Terms {
         legend: *legend,
         agents,
     };
-    let mut places = [Line::True; 4096];
+    let mut places = [Line::True; MOST_BYTES];
     let mut parser = Parser {
         cursor: Cursor { text, at: 0 },
         terms,

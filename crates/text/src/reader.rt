@@ -9,8 +9,8 @@ ghost use Rattle.text.specs.Readings.{Stated, Parted, Faulty};
 
 use crate::fault::{TextFault, TextRule};
 use crate::parser::Parser;
-use crate::parts::{Lead, Mark, join_line, path_line, undue};
-use crate::token::Token;
+use crate::parts::{Lead, Mark, join_line, path_line};
+use crate::token::{Token, undue};
 use logic::line::Line;
 use sets::coalition::Coalition;
 
@@ -34,6 +34,7 @@ impl<'a, 'b> Parser<'a, 'b> {
         ensures { MatchResult result (λ at. Stated allow self.old self.new at) (λ f. Faulty allow [] self.old f) }
     {
         if allow == 0 {
+            // kept: a call on `self.cursor` in the fault has no rule in the borrow checker.
             let cursor = self.cursor;
             return Err(TextFault {
                 rule: TextRule::Depth,

@@ -33,20 +33,20 @@ pub(crate) fn coalition(digits: &[u8]) -> Option<Coalition>
     Some(Coalition::new(bits))
 }
 
-/// The coalition that a token names, or a fault at its place where an agent does not exist.
-pub(crate) fn agents(digits: &[u8], count: u8, place: usize) -> Result<Coalition, TextFault>
-    requires { Rising 48 digits.now }
-    ensures { MatchResult result (λ c. (who c ≡ number digits.now) × (who c < 2 ^ count)) (λ f. (f.rule ≡ rule.Agent) × (f.place ≡ place) × (number digits.now < 2 ^ count → ⊥)) }
-{
-    coalition(digits)
-        .filter(|members| members.is_among(count))
-        .ok_or(TextFault {
-            rule: TextRule::Agent,
-            place,
-        })
-}
-
 impl Terms {
+    /// The coalition that digits name, or a fault at their place where an agent does not exist.
+    pub(crate) fn members(&self, digits: &[u8], place: usize) -> Result<Coalition, TextFault>
+        requires { Rising 48 digits.now }
+        ensures { MatchResult result (λ c. (who c ≡ number digits.now) × (who c < 2 ^ (terms_of self.now).agents)) (λ f. (f.rule ≡ rule.Agent) × (f.place ≡ place) × (number digits.now < 2 ^ (terms_of self.now).agents → ⊥)) }
+    {
+        coalition(digits)
+            .filter(|members| members.is_among(self.agents))
+            .ok_or(TextFault {
+                rule: TextRule::Agent,
+                place,
+            })
+    }
+
     /// The mark that a word names, or a fault at its place.
     pub(crate) fn mark(&self, word: &[u8], place: usize) -> Result<u8, TextFault>
         requires { (i : ℕ) → i < length word.now → LetterOrDigit (slice_index word.now i) }

@@ -1,4 +1,8 @@
 //! Tokens of question text.
+ghost use Rattle.std.specs.Prelude.{◌≡◌};
+ghost use Rattle.text.specs.declared.fault.TextRule.TheVariants as rule;
+
+use crate::fault::{TextFault, TextRule};
 
 /// A token; names and agents are the part of the text that they fill.
 #[derive(Clone, Copy)]
@@ -24,4 +28,15 @@ pub(crate) enum Token<'a> {
 pub(crate) struct Read<'a> {
     pub(crate) token: Token<'a>,
     pub(crate) place: usize,
+}
+
+/// A token that is not due, or none.
+pub(crate) fn undue(place: usize) -> TextFault
+    ensures rule { result.rule ≡ rule.Token }
+    ensures place { result.place ≡ place }
+{
+    TextFault {
+        rule: TextRule::Token,
+        place,
+    }
 }

@@ -1,10 +1,9 @@
-use Rattle.std.proofs.Common.{◌≡◌, ℕ, sym, subst}
+use Rattle.std.proofs.Common.{◌≡◌}
 use Rattle.grammar.specs.declared.Joint.{Joint}
 use Rattle.grammar.specs.declared.Joint.TheVariants as joint
-use Rattle.grammar.specs.Tokens.{Tok}
 use Rattle.grammar.specs.Grammar.{joint_tok}
-use Rattle.grammar.specs.Parts.{Miss}
 use Rattle.text.specs.Shown.{shown}
+use Rattle.text.proofs.Exits.{another}
 use Rattle.text.proofs.Sights.{seen}
 use Rattle.text.proofs.cursor.Cursor.connective.Goals as goal
 use Rattle.text.proofs.cursor.Cursor.connective.Goals.{After-undue}
@@ -14,8 +13,4 @@ unlike c joint.And e = c.in_default.not-And (seen _ e)
 unlike c joint.Or e = c.in_default.not-Or (seen _ e)
 
 pub returns-in_default-clause-cases : goal.returns-in_default-clause-cases
-returns-in_default-clause-cases c = (
-  c.undue.ensures.rule,
-  subst (λ (p : ℕ). Miss c.args.self.now.text.now c.args.self.now.at (λ (t : Tok). (j : Joint) × (t ≡ joint_tok j)) p) (sym c.undue.ensures.place)
-      (Miss.other _ _ c.in_ok-read.ensures.cases.0 (λ h. unlike c h.0 h.1)),
-)
+returns-in_default-clause-cases c = (c.undue.ensures.rule, another c.undue.ensures.place c.in_ok-read.ensures.cases.0 (λ h. unlike c h.0 h.1))

@@ -1,11 +1,10 @@
-use Rattle.std.proofs.Common.{◌≡◌, ℕ, sym, subst}
+use Rattle.std.proofs.Common.{◌≡◌}
 use Rattle.grammar.specs.declared.Ahead.TheVariants as ahead
-use Rattle.grammar.specs.Tokens.{Tok}
-use Rattle.grammar.specs.Parts.{Miss}
 use Rattle.text.specs.declared.parts.Lead.{Lead}
 use Rattle.text.specs.declared.parts.Lead.TheVariants as lead
 use Rattle.text.specs.Shown.{shown}
 use Rattle.text.specs.Readings.{lead_tok}
+use Rattle.text.proofs.Exits.{another}
 use Rattle.text.proofs.Sights.{seen}
 use Rattle.text.proofs.cursor.Cursor.lead.Goals as goal
 use Rattle.text.proofs.cursor.Cursor.lead.Goals.{After-undue}
@@ -16,8 +15,4 @@ unlike c (lead.Onward ahead.Always) e = c.in_default.not-Always (seen _ e)
 unlike c lead.Until e = c.in_default.not-Open (seen _ e)
 
 pub returns-in_default-clause-cases : goal.returns-in_default-clause-cases
-returns-in_default-clause-cases c = (
-  c.undue.ensures.rule,
-  subst (λ (p : ℕ). Miss c.args.self.now.text.now c.args.self.now.at (λ (t : Tok). (l : Lead) × (t ≡ lead_tok l)) p) (sym c.undue.ensures.place)
-      (Miss.other _ _ c.in_ok-read.ensures.cases.0 (λ h. unlike c h.0 h.1)),
-)
+returns-in_default-clause-cases c = (c.undue.ensures.rule, another c.undue.ensures.place c.in_ok-read.ensures.cases.0 (λ h. unlike c h.0 h.1))

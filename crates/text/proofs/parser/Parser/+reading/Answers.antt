@@ -1,9 +1,9 @@
-use Rattle.std.proofs.Common.{◌≡◌, ℕ, suc, ◌-◌, List, [], ◌∷◌, ◌++◌, sym, refl, ap, ◌∙◌, subst, append-nil, arith}
+use Rattle.std.proofs.Common.{◌≡◌, ℕ, suc, ◌-◌, List, [], ◌∷◌, ◌++◌, sym, refl, ap, ◌∙◌, append-nil, arith}
 use Rattle.std.proofs.lemmas.Result.{MatchResult-weaker}
 use Rattle.sets.specs.Sets.{who}
 use Rattle.logic.specs.Logic.{verum, mark, neg, until}
 use Rattle.logic.specs.Logic as logic
-use Rattle.grammar.specs.Tokens.{Tok, t_true, t_name, t_not, t_and, t_open, t_close, t_less, t_greater, t_next, t_until, Lexes}
+use Rattle.grammar.specs.Tokens.{Tok, t_true, t_name, t_not, t_and, t_open, t_close, t_less, t_greater, t_next, t_until}
 use Rattle.grammar.specs.Grammar.{members, group, print, joined_by, joint_tok, ahead_by, ahead_tok}
 use Rattle.grammar.specs.Parts.{Miss}
 use Rattle.grammar.proofs.Prints.{group_more, print_joined, print_ahead}
@@ -26,13 +26,12 @@ use Rattle.grammar.proofs.Dues.{
   no_mark,
 }
 use Rattle.text.specs.declared.fault.TextRule.TheVariants as rule
-use Rattle.text.specs.declared.parts.Lead.{Lead}
 use Rattle.text.specs.Shown.{shown}
 use Rattle.text.specs.Vocabularies.{terms_of}
-use Rattle.text.specs.Readings.{lead_tok, joint_line, ahead_line}
+use Rattle.text.specs.Readings.{joint_line, ahead_line}
 use Rattle.list.proofs.Exits.{at_exit}
-use Rattle.text.proofs.Exits.{ruled, tok_is, lex_one}
-use Rattle.text.proofs.Operators.{ahead_real, over_joined, over_ahead, flat_joined, flat_ahead, no_lead, stated_at, faulty_at, parted_told, faulty_told}
+use Rattle.text.proofs.Exits.{another, ruled, tok_is, lex_one}
+use Rattle.text.proofs.Operators.{ahead_real, lead_is, over_joined, over_ahead, flat_joined, flat_ahead, no_lead, stated_at, faulty_at, parted_told, faulty_told}
 use Rattle.text.proofs.Sights.{seen}
 use Rattle.text.proofs.Steps.{moves, reads_none, reads_more, reads_state, reads_two, wrong_after, wrong_part, stray, parted_before, leaf, stated, one, two}
 use Rattle.text.proofs.parser.Parser.+reading.Goals as goal
@@ -104,7 +103,7 @@ line-returns-in_default t c =
     let p = c.args.self.now in
     let V = terms_of p.terms in
     stray c.undue.result [] [] refl c.undue.ensures.rule (reads_none p) t_true (due_start V c.args.allow) (only_start V c.args.allow)
-    (subst (λ (n : ℕ). Miss p.cursor.text.now p.cursor.at Starts n) (sym c.undue.ensures.place) (Miss.other _ _ c.in_ok-read.ensures.cases.0 (starts-not t c _ refl)))
+    (another c.undue.ensures.place c.in_ok-read.ensures.cases.0 (starts-not t c _ refl))
 
 pub pair-returns-in_err-left : goal.pair-returns-in_err-left
 pair-returns-in_err-left t c =
@@ -190,7 +189,7 @@ path-returns-in_err-state-in-Onward t c =
     let A = who c.args.agents in
     let h = c.in-Onward.ahead in
     let first = c.in_ok-ahead.ensures in
-    let l = subst (λ (x : Lead). Lexes p.cursor.text.now p.cursor.at (lead_tok x ∷ []) c.lead.new.self.at) c.in-Onward.is first.cases in
+    let l = lead_is c.in-Onward.is first.cases in
     at_exit _ _ c.from_residual-in_err-state-in-Onward.result _ c.from_residual-in_err-state-in-Onward.ensures.1
     (wrong_part (group A []) (ahead_tok h ∷ []) (group_more A [] (ahead_tok h ∷ [])) c.in_err-state-in-Onward.ensures (moves first.onward refl refl l).reads (frame_ahead (terms_of p.terms) c.args.allow A c.requires h))
 
@@ -201,7 +200,7 @@ path-returns-in_ok-state-in-Onward t c =
     let A = who c.args.agents in
     let h = c.in-Onward.ahead in
     let first = c.in_ok-ahead.ensures in
-    let l = subst (λ (x : Lead). Lexes p.cursor.text.now p.cursor.at (lead_tok x ∷ []) c.lead.new.self.at) c.in-Onward.is first.cases in
+    let l = lead_is c.in-Onward.is first.cases in
     one (group A []) (ahead_tok h) (ahead_by h A) (ahead_line h A) (ahead_real h) (over_ahead V h A c.requires) (λ f. print_ahead V.word c.args.allow h A f ∙ sym (group_more A [] _)) (flat_ahead h A)
     c.in_ok-state-in-Onward.ensures (moves first.onward refl refl l) c.path_line.ensures
 
@@ -211,7 +210,7 @@ path-returns-in-Until t c =
     let A = who c.args.agents in
     let first = c.in_ok-ahead.ensures in
     let same = group_more A [] (t_open ∷ []) in
-    let l = subst (λ (x : Lead). Lexes p.cursor.text.now p.cursor.at (lead_tok x ∷ []) c.lead.new.self.at) c.in-Until.is first.cases in
+    let l = lead_is c.in-Until.is first.cases in
     MatchResult-weaker c.until.result c.until.ensures
     (λ made h. parted_before (group A []) (t_open ∷ []) (parted_told (sym same) h) (moves first.onward refl refl l))
     (λ f w. wrong_after (group A []) (t_open ∷ []) (faulty_told (sym same) w) (moves first.onward refl refl l).reads)
