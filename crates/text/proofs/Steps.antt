@@ -9,7 +9,7 @@ use Rattle.logic.specs.Lines.{last, flatten}
 use Rattle.logic.specs.Questions.{line_of, question}
 use Rattle.logic.specs.declared.line.Line.{Line}
 use Rattle.logic.proofs.Asking.{length-question, question_push}
-use Rattle.grammar.specs.Tokens.{Tok, t_close, t_end, Lexes}
+use Rattle.grammar.specs.Tokens.{Tok, t_close, t_end, TokAt, Lexes}
 use Rattle.grammar.specs.Grammar.{Over, Due, print}
 use Rattle.grammar.specs.Parts.{Ends, Wrong, Miss}
 use Rattle.grammar.proofs.Dues.{Only}
@@ -18,11 +18,13 @@ use Rattle.text.specs.declared.fault.TextFault.{TextFault}
 use Rattle.text.specs.declared.fault.TextRule.TheVariants as rule
 use Rattle.text.specs.declared.parser.Parser.{Parser}
 use Rattle.text.specs.declared.terms.Terms.{Terms}
+use Rattle.text.specs.declared.token.Token.{Token}
 use Rattle.text.specs.Cursors.{Onward}
+use Rattle.text.specs.Shown.{shown, Proper}
 use Rattle.text.specs.Faults.{rule_number}
 use Rattle.text.specs.Vocabularies.{terms_of}
 use Rattle.text.specs.Readings.{Stated, Parted, Faulty}
-use Rattle.text.proofs.Exits.{astray, told, lex_some}
+use Rattle.text.proofs.Exits.{astray, told, tok_is, lex_one, lex_some}
 
 -- q stands after the tokens ts of p's text, and speaks of the same
 pub record Reads (p q : Parser) (ts : L.List Tok) : Type 0 where
@@ -38,6 +40,10 @@ pub record Moves (p q : Parser) (ts : L.List Tok) : Type 0 where
 
 pub moves : {p q : Parser} {ts : L.List Tok} → Onward p.cursor q.cursor → q.terms ≡ p.terms → q.lines ≡ p.lines → Lexes p.cursor.text.now p.cursor.at ts q.cursor.at → Moves p q ts
 moves on terms lines l = record { reads = record { text = on.text; terms = terms; lexed = l }; ordered = on.ordered; lines = lines }
+
+-- a token that is read and known
+pub moves_token : {p q : Parser} {place : ℕ} {t u : Token} → Onward p.cursor q.cursor → TokAt p.cursor.text.now p.cursor.at place q.cursor.at (shown t) × Proper t → t ≡ u → q.terms ≡ p.terms → q.lines ≡ p.lines → Moves p q (shown u ∷ [])
+moves_token on at e terms lines = moves on terms lines (lex_one (tok_is at e).0)
 
 -- tokens of a later place, as the earlier one's text has them
 lexed_on : {p m : Parser} (us ts : L.List Tok) (to : ℕ) → Reads p m us → Lexes m.cursor.text.now m.cursor.at ts to → Lexes p.cursor.text.now m.cursor.at ts to

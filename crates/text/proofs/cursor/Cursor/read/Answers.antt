@@ -1,4 +1,4 @@
-use Rattle.std.proofs.Common.{◌≡◌, ◌<◌, length, get_or, None, rules, arith}
+use Rattle.std.proofs.Common.{◌≡◌, None, rules}
 use Rattle.list.proofs.Exits.{at_exit}
 use Rattle.text.proofs.cursor.Cursor.read.Goals as goal
 

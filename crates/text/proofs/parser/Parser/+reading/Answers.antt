@@ -30,10 +30,10 @@ use Rattle.text.specs.Shown.{shown}
 use Rattle.text.specs.Vocabularies.{terms_of}
 use Rattle.text.specs.Readings.{joint_line, ahead_line}
 use Rattle.list.proofs.Exits.{at_exit}
-use Rattle.text.proofs.Exits.{another, ruled, tok_is, lex_one}
+use Rattle.text.proofs.Exits.{another, ruled, tok_is}
 use Rattle.text.proofs.Operators.{ahead_real, lead_is, over_joined, over_ahead, flat_joined, flat_ahead, no_lead, stated_at, faulty_at, parted_told, faulty_told}
 use Rattle.text.proofs.Sights.{seen}
-use Rattle.text.proofs.Steps.{moves, reads_none, reads_more, reads_state, reads_two, wrong_after, wrong_part, stray, parted_before, leaf, stated, one, two}
+use Rattle.text.proofs.Steps.{moves, moves_token, reads_none, reads_more, reads_state, reads_two, wrong_after, wrong_part, stray, parted_before, leaf, stated, one, two}
 use Rattle.text.proofs.parser.Parser.+reading.Goals as goal
 use Rattle.text.proofs.parser.Parser.+reading.Goals.{line-After-undue}
 
@@ -55,41 +55,33 @@ line-returns-in_err-mark-in-Name t c =
 pub line-returns-in_err-state-in-Not : goal.line-returns-in_err-state-in-Not
 line-returns-in_err-state-in-Not t c =
     let V = terms_of c.args.self.now.terms in
-    let at = tok_is c.in_ok-read.ensures.cases c.in-Not.is in
     at_exit _ _ c.from_residual-in_err-state-in-Not.result _ c.from_residual-in_err-state-in-Not.ensures.1
-    (wrong_part [] (t_not ∷ []) refl c.in_err-state-in-Not.ensures (moves c.in_ok-read.ensures.onward refl refl (lex_one at.0)).reads (frame_not V c.args.allow))
+    (wrong_part [] (t_not ∷ []) refl c.in_err-state-in-Not.ensures (moves_token c.in_ok-read.ensures.onward c.in_ok-read.ensures.cases c.in-Not.is refl refl).reads (frame_not V c.args.allow))
 
 pub line-returns-in-True : goal.line-returns-in-True
 line-returns-in-True t c =
-    let at = tok_is c.in_ok-read.ensures.cases c.in-True.is in
-    leaf verum t_true (λ e. cc) tt refl refl (moves c.in_ok-read.ensures.onward refl refl (lex_one at.0))
+    leaf verum t_true (λ e. cc) tt refl refl (moves_token c.in_ok-read.ensures.onward c.in_ok-read.ensures.cases c.in-True.is refl refl)
 
 pub line-returns-in_ok-mark-in-Name : goal.line-returns-in_ok-mark-in-Name
 line-returns-in_ok-mark-in-Name t c =
     let m = c.in_ok-mark-in-Name.ensures in
-    let at = tok_is c.in_ok-read.ensures.cases c.in-Name.is in
-    leaf (mark c.in_ok-mark-in-Name.field-0) _ (λ e. cc) m.0 (ap (λ (w : List ℕ). t_name w ∷ []) m.1) refl (moves c.in_ok-read.ensures.onward refl refl (lex_one at.0))
+    leaf (mark c.in_ok-mark-in-Name.field-0) _ (λ e. cc) m.0 (ap (λ (w : List ℕ). t_name w ∷ []) m.1) refl (moves_token c.in_ok-read.ensures.onward c.in_ok-read.ensures.cases c.in-Name.is refl refl)
 
 pub line-returns-in_ok-state-in-Not : goal.line-returns-in_ok-state-in-Not
 line-returns-in_ok-state-in-Not t c =
-    let at = tok_is c.in_ok-read.ensures.cases c.in-Not.is in
-    one [] t_not neg logic.Not (λ e. cc) (λ f o. o) (λ f. refl) (λ f q. refl) c.in_ok-state-in-Not.ensures (moves c.in_ok-read.ensures.onward refl refl (lex_one at.0)) refl
+    one [] t_not neg logic.Not (λ e. cc) (λ f o. o) (λ f. refl) (λ f q. refl) c.in_ok-state-in-Not.ensures (moves_token c.in_ok-read.ensures.onward c.in_ok-read.ensures.cases c.in-Not.is refl refl) refl
 
 pub line-returns-in-Open : goal.line-returns-in-Open
 line-returns-in-Open t c =
-    let on = c.in_ok-read.ensures.onward in
-    let l = lex_one (tok_is c.in_ok-read.ensures.cases c.in-Open.is).0 in
     MatchResult-weaker c.pair.result c.pair.ensures
-    (λ made h. parted_before [] (t_open ∷ []) h (moves on refl refl l))
-    (λ f w. wrong_after [] (t_open ∷ []) w (moves on refl refl l).reads)
+    (λ made h. parted_before [] (t_open ∷ []) h (moves_token c.in_ok-read.ensures.onward c.in_ok-read.ensures.cases c.in-Open.is refl refl))
+    (λ f w. wrong_after [] (t_open ∷ []) w (moves_token c.in_ok-read.ensures.onward c.in_ok-read.ensures.cases c.in-Open.is refl refl).reads)
 
 pub line-returns-in-Less : goal.line-returns-in-Less
 line-returns-in-Less t c =
-    let on = c.in_ok-read.ensures.onward in
-    let l = lex_one (tok_is c.in_ok-read.ensures.cases c.in-Less.is).0 in
     MatchResult-weaker c.strategy.result c.strategy.ensures
-    (λ made h. parted_before [] (t_less ∷ []) h (moves on refl refl l))
-    (λ f w. wrong_after [] (t_less ∷ []) w (moves on refl refl l).reads)
+    (λ made h. parted_before [] (t_less ∷ []) h (moves_token c.in_ok-read.ensures.onward c.in_ok-read.ensures.cases c.in-Less.is refl refl))
+    (λ f w. wrong_after [] (t_less ∷ []) w (moves_token c.in_ok-read.ensures.onward c.in_ok-read.ensures.cases c.in-Less.is refl refl).reads)
 
 starts-not : (t : ℕ) (c : line-After-undue t) (k : Tok) → shown c.in_ok-read.read.token ≡ k → Starts k → ⊥
 starts-not t c k e (Starts.true i) = c.in_default.not-True (seen _ (e ∙ i))
