@@ -10,7 +10,7 @@ use Rattle.reader.specs.Faults.{rule_number}
 use Rattle.reader.specs.Whole as file
 use Rattle.grammar.specs.Grammar.{vocabulary}
 use Rattle.grammar.specs.Texts as grammar
-use Rattle.text.specs.Readings.{most_bytes}
+use Rattle.text.specs.Sizes.{most_bytes}
 use Rattle.text.specs.Parsing as text
 use Rattle.report.specs.declared.fault.JobFault.{JobFault}
 use Rattle.report.specs.declared.fault.JobFault.TheVariants.{Places, Length, Model, Question}

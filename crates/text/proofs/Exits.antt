@@ -63,3 +63,10 @@ spells_some h (Spells.sign a b c) = omega arith
 -- a token that isn't the end has bytes
 pub tok_some : {text : List ℕ} {from p q : ℕ} {t : Tok} → TokAt text from p q t → (t ≡ t_end → ⊥) → from < q
 tok_some a real = omega (arith, a.blanks.ordered, spells_some real a.spells)
+
+pub lex_some : {text : List ℕ} {from q : ℕ} {t : Tok} → Lexes text from (t ∷ []) q → (t ≡ t_end → ⊥) → from < q
+lex_some l real = omega (arith, l.3, tok_some l.2 real)
+
+-- another token than one that is wanted, at the place of a fault
+pub another : {text : List ℕ} {from place p q : ℕ} {t : Tok} {Wanted : Tok → Type 0} → p ≡ place → TokAt text from place q t → (Wanted t → ⊥) → Miss text from Wanted p
+another {text} {from} {Wanted = Wanted} e at h = subst (λ (n : ℕ). Miss text from Wanted n) (sym e) (Miss.other _ _ at h)

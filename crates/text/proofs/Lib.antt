@@ -2,7 +2,7 @@ mod Digits
 mod Exits
 mod Naming
 mod Operators
+mod Runs
 mod Sights
 mod Steps
 mod Wholes
-mod Words

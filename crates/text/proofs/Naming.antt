@@ -1,12 +1,15 @@
 -- The words of a legend's names.
-use Rattle.std.proofs.Common.{◌≡◌, ℕ, zero, suc, ◌-◌, ◌<◌, eqb, List, [], ◌∷◌, ◌++◌, length, get_or, replicate, sym, refl, ap, ◌∙◌, inl, inr, arith}
+use Rattle.std.proofs.Common.{◌≡◌, ℕ, zero, suc, ◌-◌, ◌<◌, eqb, List, [], ◌∷◌, ◌++◌, length, get_or, replicate, Option, None, Some, MatchOption, MatchResult, sym, refl, ap, ◌∙◌, inl, inr, arith}
 use mathlib.Core.Logic.{∥∥₁_elim}
 use native.Mathlib.Nat.{ℕ_set}
 use Rattle.std.proofs.lemmas.Bool.{cases_lt, cond-false, ne_eqb}
+use Rattle.std.specs.Option.{ok_or}
 use Rattle.legend.specs.Names.{LetterOrDigit, padded, Lawful}
 use Rattle.legend.specs.Legends.{names_of}
 use Rattle.legend.specs.declared.Legend.{Legend}
 use Rattle.grammar.specs.Grammar.{word_of, vocabulary}
+use Rattle.text.specs.declared.fault.TextFault.{TextFault}
+use Rattle.text.specs.declared.fault.TextRule.TheVariants as rule
 use Rattle.grammar.proofs.Single.{Apart}
 
 -- letters and digits
@@ -49,3 +52,11 @@ module _ (l : Legend) where
 
   pub words_apart : (k : ℕ) → Apart (vocabulary (names_of l) k)
   words_apart k i j h m e = ∥∥₁_elim l.lawful (ℕ_set i j) (λ law. apart (names_of l) law i j h m e)
+
+  -- what a look-up of a word answers, as a mark or a fault
+  pub mark_or_fault : (w : List ℕ) → Each w → (place : ℕ) (o : Option ℕ) →
+      MatchOption o ((i : ℕ) → i < length (names_of l) → get_or (names_of l) i [] ≡ padded w → ⊥) (λ i. (i < length (names_of l)) × (get_or (names_of l) i [] ≡ padded w)) →
+      MatchResult {E = TextFault} (ok_or o (record { rule = rule.Name; place = place })) (λ m. (m < length (names_of l)) × (word_of (get_or (names_of l) m []) ≡ w))
+      (λ f. (f.rule ≡ rule.Name) × (f.place ≡ place) × ((i : ℕ) → i < length (names_of l) → word_of (get_or (names_of l) i []) ≡ w → ⊥))
+  mark_or_fault w each place None h = (refl, refl, word_unknown w h)
+  mark_or_fault w each place (Some i) h = (h.0, word_known (names_of l) i w each h.1)

@@ -1,7 +1,6 @@
 -- What operators do to vocabularies and lines, and small steps of the readers.
-use Rattle.std.proofs.Common.{◌≡◌, ℕ, ◌^◌, ◌<◌, ◌∷◌, sym, refl, subst}
+use Rattle.std.proofs.Common.{◌≡◌, ℕ, ◌^◌, ◌<◌, [], ◌∷◌, refl, subst}
 use mathlib.Core.List as L
-use Rattle.list.specs.declared.List.{List}
 use Rattle.logic.specs.Logic.{Formula}
 use Rattle.logic.specs.Logic as logic
 use Rattle.logic.specs.Lines.{last, flatten}
@@ -10,13 +9,15 @@ use Rattle.grammar.specs.declared.Joint.{Joint}
 use Rattle.grammar.specs.declared.Joint.TheVariants as joint
 use Rattle.grammar.specs.declared.Ahead.{Ahead}
 use Rattle.grammar.specs.declared.Ahead.TheVariants as ahead
-use Rattle.grammar.specs.Tokens.{Tok, Lexes}
-use Rattle.grammar.specs.Grammar.{Vocabulary, Over, print, joined_by, ahead_by}
-use Rattle.grammar.specs.Parts.{Wrong, Miss}
+use Rattle.grammar.specs.Tokens.{Tok, t_end, Lexes}
+use Rattle.grammar.specs.Grammar.{Vocabulary, Over, joined_by, ahead_by, ahead_tok}
+use Rattle.grammar.specs.Parts.{Miss}
 use Rattle.grammar.proofs.Dues.{Leads}
 use Rattle.text.specs.declared.parts.Lead.{Lead}
 use Rattle.text.specs.declared.parts.Lead.TheVariants as lead
-use Rattle.text.specs.Readings.{lead_tok, joint_line, ahead_line, Stated, Parted}
+use Rattle.text.specs.declared.fault.TextFault.{TextFault}
+use Rattle.text.specs.declared.parser.Parser.{Parser}
+use Rattle.text.specs.Readings.{lead_tok, joint_line, ahead_line, Stated, Parted, Faulty}
 
 pub over_joined : (V : Vocabulary) (j : Joint) (f g : Formula) → Over V f → Over V g → Over V (joined_by j f g)
 over_joined V joint.And f g a b = (a, b)
@@ -43,16 +44,24 @@ no_lead (Miss.other q t at h) = Miss.other q t at (λ l. h (led l))
     led (Leads.onward h e) = (lead.Onward h, e)
     led (Leads.opens e) = (lead.Until, e)
 
--- the tokens of a state that was read
-pub lexed : {V : Vocabulary} {allow : ℕ} {text : L.List ℕ} {from to at : ℕ} {s t : List Line} (h : Stated V allow text from s t to at) → Lexes text from (print V.word allow h.formula) to
-lexed {text = text} {from} {to} h = subst (λ (l : L.List Tok). Lexes text from l to) (sym h.ends.whole) h.ends.lexed
+-- what begins a path, when it is known
+pub lead_is : {text : L.List ℕ} {from to : ℕ} {x y : Lead} → x ≡ y → Lexes text from (lead_tok x ∷ []) to → Lexes text from (lead_tok y ∷ []) to
+lead_is {text} {from} {to} e l = subst (λ (z : Lead). Lexes text from (lead_tok z ∷ []) to) e l
 
 -- one level more
-pub stated_at : {V : Vocabulary} {d e : ℕ} {text : L.List ℕ} {from to at : ℕ} {s t : List Line} → d ≡ e → Stated V d text from s t to at → Stated V e text from s t to at
-stated_at {V} {text = text} {from} {to} {at} {s} {t} h x = subst (λ (n : ℕ). Stated V n text from s t to at) h x
+pub stated_at : {d e : ℕ} {p q : Parser} {at : ℕ} → d ≡ e → Stated d p q at → Stated e p q at
+stated_at {p = p} {q} {at} h x = subst (λ (n : ℕ). Stated n p q at) h x
 
-pub wrong_at : {V : Vocabulary} (d : ℕ) {e : ℕ} {text : L.List ℕ} {pre : L.List Tok} {from number place : ℕ} → d ≡ e → Wrong V (print V.word d) text pre from number place → Wrong V (print V.word e) text pre from number place
-wrong_at {V} d {text = text} {pre} {from} {number} {place} h x = subst (λ (n : ℕ). Wrong V (print V.word n) text pre from number place) h x
+pub faulty_at : {d e : ℕ} {pre : L.List Tok} {p : Parser} {f : TextFault} → d ≡ e → Faulty d pre p f → Faulty e pre p f
+faulty_at {pre = pre} {p} {f} h x = subst (λ (n : ℕ). Faulty n pre p f) h x
 
-pub parted_told : {V : Vocabulary} {allow : ℕ} {text : L.List ℕ} {pre ts : L.List Tok} {from to : ℕ} {s t : List Line} {made : Line} → ts ≡ pre → Parted V allow text ts from s t to made → Parted V allow text pre from s t to made
-parted_told {V} {allow} {text} {from = from} {to} {s} {t} {made} e p = subst (λ (x : L.List Tok). Parted V allow text x from s t to made) e p
+pub parted_told : {allow : ℕ} {pre ts : L.List Tok} {p q : Parser} {made : Line} → ts ≡ pre → Parted allow ts p q made → Parted allow pre p q made
+parted_told {allow} {p = p} {q} {made} e h = subst (λ (x : L.List Tok). Parted allow x p q made) e h
+
+pub faulty_told : {allow : ℕ} {pre ts : L.List Tok} {p : Parser} {f : TextFault} → ts ≡ pre → Faulty allow ts p f → Faulty allow pre p f
+faulty_told {allow} {p = p} {f} e h = subst (λ (x : L.List Tok). Faulty allow x p f) e h
+
+-- an operator's token isn't the end
+pub ahead_real : (h : Ahead) → ahead_tok h ≡ t_end → ⊥
+ahead_real ahead.Next e = cc
+ahead_real ahead.Always e = cc

@@ -1,5 +1,7 @@
+pub mod Sizes
+pub mod Cursors
+pub mod Tests
 pub mod Faults
-pub mod Classes
 pub mod Shown
 pub mod Vocabularies
 pub mod Readings

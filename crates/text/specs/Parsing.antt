@@ -12,7 +12,7 @@ use Rattle.grammar.specs.Texts.{Accepts, Rejects}
 use Rattle.text.specs.declared.fault.TextRule.{TextRule}
 use Rattle.text.specs.declared.fault.TextRule.TheVariants.{Token, Name, Agent, Depth, Length, Places}
 use Rattle.text.specs.Faults.{rule_number}
-use Rattle.text.specs.Readings.{most_bytes}
+use Rattle.text.specs.Sizes.{most_bytes}
 
 -- the text spells one formula, and the list holds just its lines
 pub record Parsed (V : Vocabulary) (text : L.List ℕ) (s t : List Line) : Type 0 where

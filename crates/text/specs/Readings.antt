@@ -1,8 +1,7 @@
 -- What reading a state into lines comes to.
 use Rattle.std.specs.Prelude.{◌≡◌, ℕ, ◌+◌, ◌≤◌, ◌∷◌, length}
 use mathlib.Core.List as L
-use Rattle.list.specs.declared.List.{List}
-use Rattle.list.specs.Lists.{items, room}
+use Rattle.list.specs.Lists.{items}
 use Rattle.logic.specs.Logic.{Formula}
 use Rattle.logic.specs.Logic as logic
 use Rattle.logic.specs.Lines.{flatten}
@@ -13,8 +12,12 @@ use Rattle.grammar.specs.declared.Joint.TheVariants as joint
 use Rattle.grammar.specs.declared.Ahead.{Ahead}
 use Rattle.grammar.specs.declared.Ahead.TheVariants as ahead
 use Rattle.grammar.specs.Tokens.{Tok, t_open, t_close, t_greater, t_until, t_end}
-use Rattle.grammar.specs.Grammar.{Vocabulary, print, ahead_tok}
-use Rattle.grammar.specs.Parts.{Ends}
+use Rattle.grammar.specs.Grammar.{print, ahead_tok}
+use Rattle.grammar.specs.Parts.{Ends, Wrong}
+use Rattle.text.specs.declared.fault.TextFault.{TextFault}
+use Rattle.text.specs.declared.parser.Parser.{Parser}
+use Rattle.text.specs.Faults.{rule_number}
+use Rattle.text.specs.Vocabularies.{terms_of}
 use Rattle.text.specs.declared.parts.Lead.{Lead}
 use Rattle.text.specs.declared.parts.Lead.TheVariants as lead
 use Rattle.text.specs.declared.parts.Mark.{Mark}
@@ -41,31 +44,28 @@ abbrev pub ahead_line : Ahead → ℕ → ℕ → logic.Line
 ahead_line ahead.Next A a = logic.Next A a
 ahead_line ahead.Always A a = logic.Always A a
 
--- no text is longer, and so no question from it has more lines
-abbrev pub most_bytes : ℕ
-most_bytes = 4096
-
--- a place for a line for each byte from a place on
-pub record Spare (text : L.List ℕ) (from : ℕ) (s : List Line) : Type 0 where
-  pub free : length text ≤ from + room s
-  pub few : length s.places.now ≤ most_bytes
-
--- a list went on from s to t, by no more lines than bytes were read
-pub record Spent (s t : List Line) (from to : ℕ) : Type 0 where
-  pub size : length t.places.now ≡ length s.places.now
-  pub lines : t.count + from ≤ s.count + to
+-- from p to q: the same text, terms and places, and at least so many bytes more than lines
+pub record Spent (more : ℕ) (p q : Parser) : Type 0 where
+  pub text : q.cursor.text ≡ p.cursor.text
+  pub terms : q.terms ≡ p.terms
+  pub size : length q.lines.places.now ≡ length p.lines.places.now
+  pub lines : more + q.lines.count + p.cursor.at ≤ p.lines.count + q.cursor.at
 
 -- a state was read, and its lines added
-pub record Stated (V : Vocabulary) (allow : ℕ) (text : L.List ℕ) (from : ℕ) (s t : List Line) (to at : ℕ) : Type 0 where
+pub record Stated (allow : ℕ) (p q : Parser) (at : ℕ) : Type 0 where
   pub formula : Formula
-  pub ends : Ends V (print V.word allow) text L.[] from to formula
-  pub lines : question (items t) ≡ flatten formula (question (items s))
-  pub number : at + 1 ≡ t.count
-  pub spent : Spent s t from to
+  pub ends : Ends (terms_of p.terms) (print (terms_of p.terms).word allow) p.cursor.text.now L.[] p.cursor.at q.cursor.at formula
+  pub lines : question (items q.lines) ≡ flatten formula (question (items p.lines))
+  pub number : at + 1 ≡ q.lines.count
+  pub spent : Spent 0 p q
 
 -- a state that begins with pre was read, the lines of its parts added, and its own line made
-pub record Parted (V : Vocabulary) (allow : ℕ) (text : L.List ℕ) (pre : L.List Tok) (from : ℕ) (s t : List Line) (to : ℕ) (made : Line) : Type 0 where
+pub record Parted (allow : ℕ) (pre : L.List Tok) (p q : Parser) (made : Line) : Type 0 where
   pub formula : Formula
-  pub ends : Ends V (print V.word allow) text pre from to formula
-  pub line : line_of made ∷ question (items t) ≡ flatten formula (question (items s))
-  pub spent : Spent s t from to
+  pub ends : Ends (terms_of p.terms) (print (terms_of p.terms).word allow) p.cursor.text.now pre p.cursor.at q.cursor.at formula
+  pub line : line_of made ∷ question (items q.lines) ≡ flatten formula (question (items p.lines))
+  pub spent : Spent 1 p q
+
+-- after the tokens pre, a state begins and then fails
+pub record Faulty (allow : ℕ) (pre : L.List Tok) (p : Parser) (f : TextFault) : Type 0 where
+  pub wrong : Wrong (terms_of p.terms) (print (terms_of p.terms).word allow) p.cursor.text.now pre p.cursor.at (rule_number f.rule) f.place

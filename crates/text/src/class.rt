@@ -1,41 +1,38 @@
-//! Classes of bytes, and runs of one class.
-ghost use Rattle.std.specs.Prelude.{◌≤◌, length, Decides};
-ghost use Rattle.grammar.specs.Tokens.{Run};
-ghost use Rattle.text.specs.Classes.{Of};
+//! Runs of bytes of one class.
+ghost use Rattle.legend.specs.Names.{LetterOrDigit};
+ghost use Rattle.grammar.specs.Tokens.{Blank, Digit, Run};
+ghost use Rattle.text.specs.Tests.{Passes};
 
-/// A class of bytes.
-#[derive(Clone, Copy)]
-pub(crate) enum Class {
-    /// A space or the end of a line.
-    Blank,
-    /// `a` to `z`.
-    Letter,
-    /// `0` to `9`.
-    Digit,
-    /// What goes on in a name: a letter or a digit.
-    Inner,
-}
+use crate::cursor::Cursor;
 
-/// Whether a byte is of a class.
-pub(crate) fn is(class: Class, b: u8) -> bool
-    ensures { Decides result (Of class b) }
-{
-    match class {
-        Class::Blank => b == b' ' || b == b'\n',
-        Class::Letter => b >= b'a' && b <= b'z',
-        Class::Digit => b >= b'0' && b <= b'9',
-        Class::Inner => (b >= b'a' && b <= b'z') || (b >= b'0' && b <= b'9'),
+impl<'a> Cursor<'a> {
+    /// The end of the bytes from here on that are in a class.
+    fn run<F: Fn(u8) -> bool>(&self, is_in: F) -> usize
+        requires { F.IsAlwaysCallable is_in }
+        ensures { Passes (F.post is_in) self.now.text.now self.now.at result }
+    {
+        let rest = &self.text[self.at..];
+        self.at + rest.iter().position(|b| !is_in(*b)).unwrap_or(rest.len())
     }
-}
 
-/// The end of the bytes of a class that stand from a place on.
-pub(crate) fn run(text: &[u8], from: usize, class: Class) -> usize
-    requires { from ≤ length text.now }
-    ensures { Run (Of class) text.now from result }
-{
-    let mut end = from;
-    while end < text.len() && is(class, text[end]) {
-        end += 1;
+    /// The end of the blanks.
+    pub(crate) fn past_blanks(&self) -> usize
+        ensures { Run Blank self.now.text.now self.now.at result }
+    {
+        self.run(|b| matches!(b, b' ' | b'\n'))
     }
-    end
+
+    /// The end of the letters and digits.
+    pub(crate) fn past_word(&self) -> usize
+        ensures { Run LetterOrDigit self.now.text.now self.now.at result }
+    {
+        self.run(|b| b.is_ascii_lowercase() || b.is_ascii_digit())
+    }
+
+    /// The end of the digits.
+    pub(crate) fn past_digits(&self) -> usize
+        ensures { Run Digit self.now.text.now self.now.at result }
+    {
+        self.run(|b| b.is_ascii_digit())
+    }
 }

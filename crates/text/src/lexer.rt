@@ -1,13 +1,14 @@
 //! The next token of a text.
-ghost use Rattle.std.specs.Prelude.{◌≡◌, ◌≤◌, length, MatchOption, MatchResult};
+ghost use Rattle.std.specs.Prelude.{◌≡◌, MatchOption, MatchResult};
 ghost use Rattle.grammar.specs.Tokens.{Tok, Sign, Word, TokAt, Strange};
 ghost use Rattle.text.specs.declared.fault.TextRule.TheVariants as rule;
+ghost use Rattle.text.specs.Cursors.{Onward};
 ghost use Rattle.text.specs.Shown.{shown, Proper};
 
-use crate::class::{Class, is, run};
-use crate::fault::{TextFault, TextRule};
+use crate::cursor::Cursor;
+use crate::fault::TextFault;
 use crate::terms::coalition;
-use crate::token::{Read, Token};
+use crate::token::{Read, Token, undue};
 
 /// The token that is a single sign.
 fn sign(b: u8) -> Option<Token<'static>>
@@ -39,42 +40,37 @@ fn word(letters: &[u8]) -> Token
     }
 }
 
-/// The next token from a place on: after blanks, the longest name or digits, or a sign, or the end.
-pub(crate) fn scan(text: &[u8], from: usize) -> Result<Read, TextFault>
-    requires { from ≤ length text.now }
-    ensures { MatchResult result (λ x. TokAt text.now from x.place x.next (shown x.token) × Proper x.token) (λ f. (f.rule ≡ rule.Token) × Strange text.now from f.place) }
-{
-    let place = run(text, from, Class::Blank);
-    if place == text.len() {
-        return Ok(Read {
-            token: Token::End,
-            place,
-            next: place,
-        });
-    }
-    let b = text[place];
-    if is(Class::Letter, b) {
-        let next = run(text, place, Class::Inner);
-        let token = word(&text[place..next]);
-        return Ok(Read { token, place, next });
-    }
-    if is(Class::Digit, b) {
-        let next = run(text, place, Class::Digit);
-        let digits = &text[place..next];
-        if coalition(digits).is_some() {
-            let token = Token::Agents(digits);
-            return Ok(Read { token, place, next });
+impl<'a> Cursor<'a> {
+    /// Reads the next token: after blanks, the longest name or digits, or a sign, or the end.
+    pub(crate) fn read(&mut self) -> Result<Read<'a>, TextFault>
+        ensures onward { Onward self.old self.new }
+        ensures cases { MatchResult result (λ r. TokAt self.old.text.now self.old.at r.place self.new.at (shown r.token) × Proper r.token) (λ f. (f.rule ≡ rule.Token) × Strange self.old.text.now self.old.at f.place) }
+    {
+        let place = self.past_blanks();
+        self.at = place;
+        let text = self.text;
+        let Some(&b) = text.get(place) else {
+            return Ok(Read {
+                token: Token::End,
+                place,
+            });
+        };
+        if b.is_ascii_lowercase() {
+            self.at = self.past_word();
+            let token = word(&text[place..self.at]);
+            return Ok(Read { token, place });
         }
-    }
-    match sign(b) {
-        Some(token) => Ok(Read {
-            token,
-            place,
-            next: place + 1,
-        }),
-        None => Err(TextFault {
-            rule: TextRule::Token,
-            place,
-        }),
+        if b.is_ascii_digit() {
+            let next = self.past_digits();
+            let digits = &text[place..next];
+            if coalition(digits).is_some() {
+                self.at = next;
+                let token = Token::Agents(digits);
+                return Ok(Read { token, place });
+            }
+        }
+        let token = sign(b).ok_or(undue(place))?;
+        self.at = place + 1;
+        Ok(Read { token, place })
     }
 }

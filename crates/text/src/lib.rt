@@ -2,8 +2,10 @@
 #![tactic(auto)]
 
 mod class;
+mod cursor;
 pub mod fault;
 mod lexer;
+mod parser;
 mod parts;
 mod question;
 mod reader;

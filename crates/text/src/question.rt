@@ -9,26 +9,33 @@ ghost use Rattle.grammar.specs.Grammar.{vocabulary};
 ghost use Rattle.grammar.specs.Texts.{Accepts, Rejects};
 ghost use Rattle.text.specs.Faults.{rule_number};
 ghost use Rattle.text.specs.Vocabularies.{terms_of};
-ghost use Rattle.text.specs.Readings.{Spare};
 ghost use Rattle.text.specs.Parsing.{Parsed, Refuses};
 
+use crate::cursor::Cursor;
 use crate::fault::{TextFault, TextRule};
-use crate::parts::{Mark, due};
-use crate::reader::state;
+use crate::parser::Parser;
+use crate::parts::Mark;
 use crate::terms::Terms;
 use legend::Legend;
 use list::List;
 use logic::line::Line;
 
-/// Reads a state and the end of the text after it, into an empty list with a place for each byte.
-fn whole(text: &[u8], terms: &Terms, lines: &mut List<Line>) -> Result<(), TextFault>
-    requires spare { Spare text.now 0 lines.old }
-    requires empty { lines.old.count ≡ 0 }
-    ensures { MatchResult result (λ _. (f : Formula) × Accepts (terms_of terms.now) text.now f × (question (items lines.new) ≡ flatten f [])) (λ f. Rejects (terms_of terms.now) text.now (rule_number f.rule) f.place) }
-{
-    let done = state(text, 0, 32, terms, lines)?;
-    due(text, done.next, Mark::End)?;
-    Ok(())
+/// How long a text may be.
+const MOST_BYTES: usize = 4096;
+
+/// How deep a state may stand.
+const DEEPEST: u8 = 32;
+
+impl<'a, 'b> Parser<'a, 'b> {
+    /// Reads a state and the end of the text after it.
+    fn whole(&mut self) -> Result<(), TextFault>
+        requires start { self.old.cursor.at ≡ 0 }
+        requires empty { self.old.lines.count ≡ 0 }
+        ensures { MatchResult result (λ _. (f : Formula) × Accepts (terms_of self.old.terms) self.old.cursor.text.now f × (question (items self.new.lines) ≡ flatten f [])) (λ f. Rejects (terms_of self.old.terms) self.old.cursor.text.now (rule_number f.rule) f.place) }
+    {
+        self.state(DEEPEST)?;
+        self.cursor.due(Mark::End)
+    }
 }
 
 /// Reads a text that speaks of the legend's names and of so many agents, and makes the list hold just the lines of the formula that it spells;
@@ -43,24 +50,25 @@ pub fn parse(
     ensures named { lines.new.places.ghost_name ≡ lines.old.places.ghost_name }
 {
     lines.clear();
-    if text.len() > 4096 {
+    if text.len() > MOST_BYTES {
         return Err(TextFault {
             rule: TextRule::Length,
-            place: 4096,
+            place: MOST_BYTES,
         });
     }
     let terms = Terms {
         legend: *legend,
         agents,
     };
-    let mut places = [Line::True; 4096];
-    let mut draft = List::empty(&mut places);
-    whole(text, &terms, &mut draft)?;
-    match lines.fill(draft.items()) {
-        Ok(()) => Ok(()),
-        Err(_) => Err(TextFault {
-            rule: TextRule::Places,
-            place: 0,
-        }),
-    }
+    let mut places = [Line::True; MOST_BYTES];
+    let mut parser = Parser {
+        cursor: Cursor { text, at: 0 },
+        terms,
+        lines: List::empty(&mut places),
+    };
+    parser.whole()?;
+    lines.fill(parser.lines.items()).map_err(|_| TextFault {
+        rule: TextRule::Places,
+        place: 0,
+    })
 }

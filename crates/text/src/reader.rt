@@ -1,156 +1,109 @@
 //! Reads a state into lines, operands first.
-ghost use Rattle.std.specs.Prelude.{suc, ◌^◌, ◌<◌, ◌≤◌, [], ◌∷◌, length, MatchResult};
+ghost use Rattle.std.specs.Prelude.{◌≡◌, suc, ◌+◌, ◌^◌, ◌<◌, [], ◌∷◌, length, MatchResult};
 ghost use Rattle.sets.specs.Sets.{who};
+ghost use Rattle.list.specs.Lists.{room, Extends};
 ghost use Rattle.grammar.specs.Tokens.{t_open, t_less};
-ghost use Rattle.grammar.specs.Grammar.{group, print};
-ghost use Rattle.grammar.specs.Parts.{Wrong};
-ghost use Rattle.text.specs.Faults.{rule_number};
+ghost use Rattle.grammar.specs.Grammar.{group};
 ghost use Rattle.text.specs.Vocabularies.{terms_of};
-ghost use Rattle.text.specs.Readings.{Spare, Stated, Parted};
+ghost use Rattle.text.specs.Readings.{Stated, Parted, Faulty};
 
-use crate::class::{Class, run};
 use crate::fault::{TextFault, TextRule};
-use crate::lexer::scan;
-use crate::parts::{
-    Done, Lead, Made, Mark, connective, due, join_line, members, path_lead, path_line, put, undue,
-};
-use crate::terms::{Terms, mark};
-use crate::token::Token;
-use list::List;
+use crate::parser::Parser;
+use crate::parts::{Lead, Mark, join_line, path_line};
+use crate::token::{Token, undue};
 use logic::line::Line;
 use sets::coalition::Coalition;
 
-/// Reads a state, which may stand so many levels deep, and adds its lines.
-#[cycle(reading)]
-pub(crate) fn state(
-    text: &[u8],
-    from: usize,
-    allow: u8,
-    terms: &Terms,
-    lines: &mut List<Line>,
-) -> Result<Done, TextFault>
-    requires within { from ≤ length text.now }
-    requires spare { Spare text.now from lines.old }
-    ensures { MatchResult result (λ d. Stated (terms_of terms.now) allow text.now from lines.old lines.new d.next d.line) (λ f. Wrong (terms_of terms.now) (print (terms_of terms.now).word allow) text.now [] from (rule_number f.rule) f.place) }
-{
-    if allow == 0 {
-        return Err(TextFault {
-            rule: TextRule::Depth,
-            place: run(text, from, Class::Blank),
-        });
+impl<'a, 'b> Parser<'a, 'b> {
+    /// Adds a line, for which there is a place, and answers its number.
+    fn put(&mut self, line: Line) -> u16
+        requires { length self.old.cursor.text.now < self.old.cursor.at + room self.old.lines }
+        ensures cursor { self.new.cursor ≡ self.old.cursor }
+        ensures terms { self.new.terms ≡ self.old.terms }
+        ensures line { result ≡ self.old.lines.count }
+        ensures added { Extends self.old.lines self.new.lines (line ∷ []) }
+    {
+        let at = self.lines.count();
+        let _ = self.lines.add(line);
+        at as u16
     }
-    let read = scan(text, from)?;
-    match read.token {
-        Token::True => Ok(put(lines, Line::True, read.next)),
-        Token::Name(word) => {
-            let found = mark(terms, word, read.place)?;
-            Ok(put(lines, Line::Mark(found), read.next))
+
+    /// Reads a state, which may stand so many levels deep, adds its lines, and answers the number of the last.
+    #[cycle(reading)]
+    pub(crate) fn state(&mut self, allow: u8) -> Result<u16, TextFault>
+        ensures { MatchResult result (λ at. Stated allow self.old self.new at) (λ f. Faulty allow [] self.old f) }
+    {
+        if allow == 0 {
+            // kept: a call on `self.cursor` in the fault has no rule in the borrow checker.
+            let cursor = self.cursor;
+            return Err(TextFault {
+                rule: TextRule::Depth,
+                place: cursor.past_blanks(),
+            });
         }
-        Token::Not => {
-            let part = state(text, read.next, allow - 1, terms, lines)?;
-            Ok(put(lines, Line::Not(part.line), part.next))
-        }
-        Token::Open => {
-            let made = pair(text, read.next, allow - 1, terms, lines)?;
-            Ok(put(lines, made.line, made.next))
-        }
-        Token::Less => {
-            let made = strategy(text, read.next, allow - 1, terms, lines)?;
-            Ok(put(lines, made.line, made.next))
-        }
-        _ => Err(undue(read.place)),
+        let line = self.line(allow - 1)?;
+        Ok(self.put(line))
     }
-}
 
-/// Reads what follows `(` in a state: two states with `&` or `|` between them, and `)`.
-#[cycle(reading)]
-fn pair(
-    text: &[u8],
-    from: usize,
-    allow: u8,
-    terms: &Terms,
-    lines: &mut List<Line>,
-) -> Result<Made, TextFault>
-    requires within { from ≤ length text.now }
-    requires spare { Spare text.now from lines.old }
-    ensures { MatchResult result (λ m. Parted (terms_of terms.now) (suc allow) text.now (t_open ∷ []) from lines.old lines.new m.next m.line) (λ f. Wrong (terms_of terms.now) (print (terms_of terms.now).word (suc allow)) text.now (t_open ∷ []) from (rule_number f.rule) f.place) }
-{
-    let left = state(text, from, allow, terms, lines)?;
-    let op = connective(text, left.next)?;
-    let right = state(text, op.next, allow, terms, lines)?;
-    let next = due(text, right.next, Mark::Close)?;
-    Ok(Made {
-        next,
-        line: join_line(op.joint, left.line, right.line),
-    })
-}
-
-/// Reads what follows `<`: agents, `>` and a path.
-#[cycle(reading)]
-fn strategy(
-    text: &[u8],
-    from: usize,
-    allow: u8,
-    terms: &Terms,
-    lines: &mut List<Line>,
-) -> Result<Made, TextFault>
-    requires within { from ≤ length text.now }
-    requires spare { Spare text.now from lines.old }
-    ensures { MatchResult result (λ m. Parted (terms_of terms.now) (suc allow) text.now (t_less ∷ []) from lines.old lines.new m.next m.line) (λ f. Wrong (terms_of terms.now) (print (terms_of terms.now).word (suc allow)) text.now (t_less ∷ []) from (rule_number f.rule) f.place) }
-{
-    let named = members(text, from, terms)?;
-    path(text, named.next, allow, named.members, terms, lines)
-}
-
-/// Reads a path of some agents: `X` state, `G` state, or `(` state `U` state `)`.
-#[cycle(reading)]
-fn path(
-    text: &[u8],
-    from: usize,
-    allow: u8,
-    agents: Coalition,
-    terms: &Terms,
-    lines: &mut List<Line>,
-) -> Result<Made, TextFault>
-    requires within { from ≤ length text.now }
-    requires spare { Spare text.now from lines.old }
-    requires members { who agents < 2 ^ (terms_of terms.now).agents }
-    ensures { MatchResult result (λ m. Parted (terms_of terms.now) (suc allow) text.now (group (who agents) []) from lines.old lines.new m.next m.line) (λ f. Wrong (terms_of terms.now) (print (terms_of terms.now).word (suc allow)) text.now (group (who agents) []) from (rule_number f.rule) f.place) }
-{
-    let begun = path_lead(text, from)?;
-    match begun.lead {
-        Lead::Onward(ahead) => {
-            let part = state(text, begun.next, allow, terms, lines)?;
-            Ok(Made {
-                next: part.next,
-                line: path_line(ahead, agents, part.line),
-            })
+    /// Reads a state whose parts may stand so many levels deep, adds their lines, and makes its own.
+    #[cycle(reading)]
+    fn line(&mut self, allow: u8) -> Result<Line, TextFault>
+        ensures { MatchResult result (λ line. Parted (suc allow) [] self.old self.new line) (λ f. Faulty (suc allow) [] self.old f) }
+    {
+        let read = self.cursor.read()?;
+        match read.token {
+            Token::True => Ok(Line::True),
+            Token::Name(word) => Ok(Line::Mark(self.terms.mark(word, read.place)?)),
+            Token::Not => Ok(Line::Not(self.state(allow)?)),
+            Token::Open => self.pair(allow),
+            Token::Less => self.strategy(allow),
+            _ => Err(undue(read.place)),
         }
-        Lead::Until => until(text, begun.next, allow, agents, terms, lines),
     }
-}
 
-/// Reads what follows `(` in a path: two states with `U` between them, and `)`.
-#[cycle(reading)]
-fn until(
-    text: &[u8],
-    from: usize,
-    allow: u8,
-    agents: Coalition,
-    terms: &Terms,
-    lines: &mut List<Line>,
-) -> Result<Made, TextFault>
-    requires within { from ≤ length text.now }
-    requires spare { Spare text.now from lines.old }
-    requires members { who agents < 2 ^ (terms_of terms.now).agents }
-    ensures { MatchResult result (λ m. Parted (terms_of terms.now) (suc allow) text.now (group (who agents) (t_open ∷ [])) from lines.old lines.new m.next m.line) (λ f. Wrong (terms_of terms.now) (print (terms_of terms.now).word (suc allow)) text.now (group (who agents) (t_open ∷ [])) from (rule_number f.rule) f.place) }
-{
-    let left = state(text, from, allow, terms, lines)?;
-    let then = due(text, left.next, Mark::Until)?;
-    let right = state(text, then, allow, terms, lines)?;
-    let next = due(text, right.next, Mark::Close)?;
-    Ok(Made {
-        next,
-        line: Line::Until(agents, left.line, right.line),
-    })
+    /// Reads what follows `(` in a state: two states with `&` or `|` between them, and `)`.
+    #[cycle(reading)]
+    fn pair(&mut self, allow: u8) -> Result<Line, TextFault>
+        ensures { MatchResult result (λ line. Parted (suc allow) (t_open ∷ []) self.old self.new line) (λ f. Faulty (suc allow) (t_open ∷ []) self.old f) }
+    {
+        let left = self.state(allow)?;
+        let joint = self.cursor.connective()?;
+        let right = self.state(allow)?;
+        self.cursor.due(Mark::Close)?;
+        Ok(join_line(joint, left, right))
+    }
+
+    /// Reads what follows `<`: agents, `>` and a path.
+    #[cycle(reading)]
+    fn strategy(&mut self, allow: u8) -> Result<Line, TextFault>
+        ensures { MatchResult result (λ line. Parted (suc allow) (t_less ∷ []) self.old self.new line) (λ f. Faulty (suc allow) (t_less ∷ []) self.old f) }
+    {
+        let members = self.cursor.members(&self.terms)?;
+        self.path(members, allow)
+    }
+
+    /// Reads a path of some agents: `X` state, `G` state, or `(` state `U` state `)`.
+    #[cycle(reading)]
+    fn path(&mut self, agents: Coalition, allow: u8) -> Result<Line, TextFault>
+        requires { who agents < 2 ^ (terms_of self.old.terms).agents }
+        ensures { MatchResult result (λ line. Parted (suc allow) (group (who agents) []) self.old self.new line) (λ f. Faulty (suc allow) (group (who agents) []) self.old f) }
+    {
+        match self.cursor.lead()? {
+            Lead::Onward(ahead) => Ok(path_line(ahead, agents, self.state(allow)?)),
+            Lead::Until => self.until(agents, allow),
+        }
+    }
+
+    /// Reads what follows `(` in a path: two states with `U` between them, and `)`.
+    #[cycle(reading)]
+    fn until(&mut self, agents: Coalition, allow: u8) -> Result<Line, TextFault>
+        requires { who agents < 2 ^ (terms_of self.old.terms).agents }
+        ensures { MatchResult result (λ line. Parted (suc allow) (group (who agents) (t_open ∷ [])) self.old self.new line) (λ f. Faulty (suc allow) (group (who agents) (t_open ∷ [])) self.old f) }
+    {
+        let left = self.state(allow)?;
+        self.cursor.due(Mark::Until)?;
+        let right = self.state(allow)?;
+        self.cursor.due(Mark::Close)?;
+        Ok(Line::Until(agents, left, right))
+    }
 }

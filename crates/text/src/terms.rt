@@ -23,42 +23,38 @@ pub(crate) fn coalition(digits: &[u8]) -> Option<Coalition>
 {
     let mut bits = 0u8;
     let mut low = b'0';
-    for d in digits {
-        if *d < low || *d > b'5' {
+    for &d in digits {
+        if d < low || d > b'5' {
             return None;
         }
-        bits += 1 << (*d - b'0');
-        low = *d + 1;
+        bits += 1 << (d - b'0');
+        low = d + 1;
     }
     Some(Coalition::new(bits))
 }
 
-/// The coalition that a token names, or a fault at its place where an agent does not exist.
-pub(crate) fn agents(digits: &[u8], count: u8, place: usize) -> Result<Coalition, TextFault>
-    requires { Rising 48 digits.now }
-    ensures { MatchResult result (λ c. (who c ≡ number digits.now) × (who c < 2 ^ count)) (λ f. (f.rule ≡ rule.Agent) × (f.place ≡ place) × (number digits.now < 2 ^ count → ⊥)) }
-{
-    if let Some(members) = coalition(digits) {
-        if members.is_among(count) {
-            return Ok(members);
-        }
+impl Terms {
+    /// The coalition that digits name, or a fault at their place where an agent does not exist.
+    pub(crate) fn members(&self, digits: &[u8], place: usize) -> Result<Coalition, TextFault>
+        requires { Rising 48 digits.now }
+        ensures { MatchResult result (λ c. (who c ≡ number digits.now) × (who c < 2 ^ (terms_of self.now).agents)) (λ f. (f.rule ≡ rule.Agent) × (f.place ≡ place) × (number digits.now < 2 ^ (terms_of self.now).agents → ⊥)) }
+    {
+        coalition(digits)
+            .filter(|members| members.is_among(self.agents))
+            .ok_or(TextFault {
+                rule: TextRule::Agent,
+                place,
+            })
     }
-    Err(TextFault {
-        rule: TextRule::Agent,
-        place,
-    })
-}
 
-/// The mark that a word names, or a fault at its place.
-pub(crate) fn mark(terms: &Terms, word: &[u8], place: usize) -> Result<u8, TextFault>
-    requires { (i : ℕ) → i < length word.now → LetterOrDigit (slice_index word.now i) }
-    ensures { MatchResult result (λ m. (m < (terms_of terms.now).marks) × ((terms_of terms.now).word m ≡ word.now)) (λ f. (f.rule ≡ rule.Name) × (f.place ≡ place) × ((i : ℕ) → i < (terms_of terms.now).marks → (terms_of terms.now).word i ≢ word.now)) }
-{
-    match terms.legend.find(word) {
-        Some(mark) => Ok(mark),
-        None => Err(TextFault {
+    /// The mark that a word names, or a fault at its place.
+    pub(crate) fn mark(&self, word: &[u8], place: usize) -> Result<u8, TextFault>
+        requires { (i : ℕ) → i < length word.now → LetterOrDigit (slice_index word.now i) }
+        ensures { MatchResult result (λ m. (m < (terms_of self.now).marks) × ((terms_of self.now).word m ≡ word.now)) (λ f. (f.rule ≡ rule.Name) × (f.place ≡ place) × ((i : ℕ) → i < (terms_of self.now).marks → (terms_of self.now).word i ≢ word.now)) }
+    {
+        self.legend.find(word).ok_or(TextFault {
             rule: TextRule::Name,
             place,
-        }),
+        })
     }
 }

@@ -1,4 +1,8 @@
 //! Tokens of question text.
+ghost use Rattle.std.specs.Prelude.{◌≡◌};
+ghost use Rattle.text.specs.declared.fault.TextRule.TheVariants as rule;
+
+use crate::fault::{TextFault, TextRule};
 
 /// A token; names and agents are the part of the text that they fill.
 #[derive(Clone, Copy)]
@@ -19,10 +23,20 @@ pub(crate) enum Token<'a> {
     End,
 }
 
-/// A token, the place of its first byte, and the place after its last.
+/// A token that was read, and the place of its first byte.
 #[derive(Clone, Copy)]
 pub(crate) struct Read<'a> {
     pub(crate) token: Token<'a>,
     pub(crate) place: usize,
-    pub(crate) next: usize,
+}
+
+/// A token that is not due, or none.
+pub(crate) fn undue(place: usize) -> TextFault
+    ensures rule { result.rule ≡ rule.Token }
+    ensures place { result.place ≡ place }
+{
+    TextFault {
+        rule: TextRule::Token,
+        place,
+    }
 }

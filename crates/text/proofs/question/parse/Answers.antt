@@ -1,30 +1,30 @@
-use Rattle.std.proofs.Common.{length, refl, ap, ◌∙◌, arith}
+use Rattle.std.proofs.Common.{◌≡◌, length, drop, refl, sym, subst, ap, ◌∙◌, rules, arith}
 use Rattle.list.specs.Lists.{items}
+use Rattle.legend.specs.Legends.{names_of}
+use Rattle.logic.specs.Questions.{question}
 use Rattle.logic.proofs.Asking.{length-question}
-use Rattle.list.proofs.Exits.{at_exit}
-use Rattle.text.proofs.Wholes.{refuses}
+use Rattle.grammar.specs.Grammar.{vocabulary}
+use Rattle.text.specs.declared.fault.TextFault.{TextFault}
+use Rattle.text.specs.declared.fault.TextRule.TheVariants as rule
+use Rattle.text.specs.Parsing.{Refuses}
+use Rattle.text.proofs.Wholes.{at_map_err}
 use Rattle.text.proofs.question.parse.Goals as goal
 
-pub returns-in_err-whole : goal.returns-in_err-whole
-returns-in_err-whole c = record {
-  cases = at_exit _ _ c.from_residual.result _ c.from_residual.ensures.1
-      (refuses _ c.in_err-whole.field-0.0.rule (omega arith) c.in_err-whole.ensures, c.clear.ensures.emptied);
-  named = c.clear.ensures.named;
-}
-
-pub returns-in-Err : goal.returns-in-Err
-returns-in-Err c =
-    let f = c.in_ok-whole.ensures in
-    let full = c.in-Err.ensures in
+pub returns-clause-cases : goal.returns-clause-cases
+returns-clause-cases c =
+    let w = c.in_ok-whole.ensures in
     let empty = c.clear.ensures.emptied in
-    record {
-      cases = (
-        (
-          omega arith,
-          refl,
-          (f.0, f.1, omega (arith, full.cases.0, ap length empty.places, ap length c.items.ensures, ap length f.2, length-question (items c.whole.new.lines))),
-        ),
-        record { count = full.cases.1.count ∙ empty.count; places = full.cases.1.places ∙ empty.places },
-      );
-      named = full.named ∙ c.clear.ensures.named;
-    }
+    at_map_err _ _ _ _ _ c.fill.result c.map_err.result c.map_err.ensures.cases c.fill.ensures.cases
+    (λ x f. record {
+      short = omega arith;
+      formula = w.0;
+      accepts = w.1;
+      lines = ap question (f.items ∙ c.items.ensures) ∙ w.2;
+      filled = record { items = refl; count = f.count ∙ ap length (sym f.items); size = f.size ∙ ap length empty.places; rest = f.rest ∙ ap (drop c.fill.new.self.count) empty.places };
+    })
+    (λ e d l f.
+    let same : d ≡ record { rule = rule.Places; place = 0 } = search rules in (
+      subst (λ (z : TextFault). Refuses (vocabulary (names_of c.args.legend.now) c.args.agents) c.args.text.now (length c.args.lines.now.places.now) z.rule z.place) (sym same)
+          (omega arith, refl, (w.0, w.1, omega (arith, f.0, ap length empty.places, ap length c.items.ensures, ap length w.2, length-question (items c.whole.new.self.lines)))),
+      record { count = f.1.count ∙ empty.count; places = f.1.places ∙ empty.places },
+    ))
