@@ -25,10 +25,8 @@ fn put_row(rt: &HostRuntime, legend: &Legend, row: &Row) -> anyhow::Result<()> {
             println!(rt; "")?;
         }
         Err(fault) => {
-            let number = fault.number();
-            let place = fault.place;
-            let left = lines.count();
-            println!(rt; " refused {number} at {place}, {left} lines")?;
+            let (number, place) = (fault.number(), fault.place);
+            println!(rt; " refused {number} at {place}, {} lines", lines.count())?;
         }
     }
     Ok(())
@@ -45,8 +43,7 @@ fn run(rt: &HostRuntime) -> anyhow::Result<()> {
         if line.len() < 80 {
             print!(rt; "{line} ->")?;
         } else {
-            let len = row.text.len();
-            print!(rt; "{len} bytes ->")?;
+            print!(rt; "{} bytes ->", row.text.len())?;
         }
         put_row(rt, &legend, &row)?;
     }

@@ -21,8 +21,7 @@ impl Row {
                 b'^' => b'\r',
                 other => other,
             })
-            .collect(heap)
-            .context("a row without memory for its text")?;
+            .collect(heap)?;
         Ok(Row { places, text })
     }
 }
