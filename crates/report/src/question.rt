@@ -31,10 +31,7 @@ fn answer(job: &[u8]) -> Result<StateSet, JobFault>
     let mut lines = List::empty(&mut places);
     parse(text, &legend, table.agents(), &mut lines)?;
     let mut sets = [StateSet::empty(); 4096];
-    match evaluate(&table, lines.items(), &mut sets) {
-        Ok(states) => Ok(states),
-        Err(_) => unreachable(),
-    }
+    Ok(evaluate(&table, lines.items(), &mut sets).unwrap())
 }
 
 /// Reads a job, a model file and then question text, and makes the list hold just the listing: where the question holds, or the refusal.
