@@ -58,7 +58,7 @@ fn accepted(rt: &impl Abort, input: &[u8], count: u8, after: usize) -> Result<Le
 }
 
 /// The shortest file, and a byte after it.
-fn shortest() -> [u8; 19] {
+pub(crate) fn shortest() -> [u8; 19] {
     [1, 1, 1, 0, 3, 0, 0, 1, 0, 0, 0, 0, 0, 4, 0, 5, 0, 1, 255]
 }
 
@@ -223,7 +223,7 @@ fn copies(rt: HostRuntime) -> Result<(), Fail> {
         return Err(Fail::new("the file isn't copied"));
     };
     assert_eq!(rt; len, 18);
-    assert!(rt; &bytes[..18] == &input[..18]);
+    assert_eq!(rt; &bytes[..18], &input[..18]);
     assert!(rt; bytes[18] == 9 && bytes[19] == 9);
     Ok(())
 }

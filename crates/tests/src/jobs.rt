@@ -1,4 +1,5 @@
 //! Jobs and their listings.
+use crate::files::shortest;
 use list::List;
 use report::ask;
 use report::fault::JobFault;
@@ -7,9 +8,8 @@ use std::test::Fail;
 
 /// The shortest file, one state and one agent, and then this text: so many bytes.
 fn job(text: &[u8]) -> [u8; 40] {
-    let front = [1, 1, 1, 0, 3, 0, 0, 1, 0, 0, 0, 0, 0, 4, 0, 5, 0, 1];
     let mut job = [b' '; 40];
-    job[..18].copy_from_slice(&front);
+    job[..18].copy_from_slice(&shortest()[..18]);
     for (place, byte) in job[18..].iter_mut().zip(text) {
         *place = *byte;
     }
