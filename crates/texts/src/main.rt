@@ -7,7 +7,7 @@ mod shown;
 use crate::row::Row;
 use crate::shown::Shown;
 use anyhow::Context;
-use legend::Legend;
+use legend::{Legend, pad};
 use list::List;
 use logic::line::Line;
 use text::parse;
@@ -34,8 +34,10 @@ fn put_row(rt: &HostRuntime, legend: &Legend, row: &Row) -> anyhow::Result<()> {
 
 fn run(rt: &HostRuntime) -> anyhow::Result<()> {
     let mut legend = Legend::empty();
-    for name in [*b"p       ", *b"a1b     ", *b"truex   "] {
-        legend.add(name).context("a name is not taken")?;
+    for name in ["p", "a1b", "truex"] {
+        pad(name.as_bytes())
+            .and_then(|name| legend.add(name))
+            .context("a name is not taken")?;
     }
     for line in rt.lines(rt.alloc()) {
         let line = line?;
