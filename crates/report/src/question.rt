@@ -43,6 +43,7 @@ pub fn ask(job: &[u8], listing: &mut List<u8>) -> Result<(), JobFault>
         return Err(JobFault::Places);
     }
     listing.clear();
+    // kept: with `map_err` and `?` the proof didn't close, since nothing is known of a listing that a closure may have written
     match answer(job) {
         Ok(states) => {
             put_at(listing, states);
