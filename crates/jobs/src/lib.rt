@@ -20,11 +20,7 @@ pub fn read_job(rt: &HostRuntime) -> io::Result<Vec<u8>> {
 
 /// Prints a listing; a refusal then ends the program with a status that isn't 0.
 // No contract can say which bytes a terminal takes, nor when it takes them.
-pub fn show<E: Drop>(
-    rt: &HostRuntime,
-    listing: &[u8],
-    outcome: Result<(), E>,
-) -> anyhow::Result<()>
+pub fn show<E: Drop>(rt: &HostRuntime, listing: &[u8], outcome: Result<(), E>) -> anyhow::Result<()>
     ensures { OnOk result (IsOk outcome) }
 {
     rt.stdout().write_all(listing)?;
