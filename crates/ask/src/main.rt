@@ -9,8 +9,8 @@ fn run(rt: &HostRuntime) -> anyhow::Result<()> {
     let job = read_job(rt)?;
     let mut places = [0; 512];
     let mut listing = List::empty(&mut places);
-    let refused = ask(&job, &mut listing).is_err();
-    show(rt, listing.items(), refused)
+    let outcome = ask(&job, &mut listing);
+    show(rt, listing.items(), outcome)
 }
 
 fn main(rt: HostRuntime) -> anyhow::Result<()> {

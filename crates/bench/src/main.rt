@@ -4,39 +4,45 @@
 mod models;
 mod questions;
 
-use anyhow::anyhow;
+use crate::questions::{always, mixed, next, question, until};
+use anyhow::Context;
 use logic::evaluate;
+use logic::line::Line;
 use model::state::State;
 use model::table::Table;
-use questions::Kind;
 use sets::state_set::StateSet;
 use std::time::Instant;
 
 /// Prints the answer of the last line, and on standard error how long the evaluation took.
-fn measure(rt: &HostRuntime, name: &str, states: &[State], kind: Kind) -> anyhow::Result<()> {
-    let Some(table) = Table::from_states(6, states) else {
-        return Err(anyhow!("the table breaks the ranges"));
-    };
-    let lines = questions::question(kind);
+fn measure(
+    rt: &HostRuntime,
+    model: &str,
+    states: &[State],
+    kind: &str,
+    lines: &[Line],
+) -> anyhow::Result<()> {
+    let table = Table::from_states(6, states).context("the table breaks the ranges")?;
     let mut sets = [StateSet::empty(); 4096];
     let start = Instant::now(rt)?;
-    let answer = evaluate(&table, &lines, &mut sets);
+    let answer = evaluate(&table, lines, &mut sets);
     let took = start.elapsed(rt)?.as_micros();
-    let Ok(states) = answer else {
-        return Err(anyhow!("the question is refused"));
-    };
-    let word = states.word();
-    println!(rt; "{name}, {kind:?}: {word:016x}")?;
-    eprintln!(rt; "{name}, {kind:?}: {took} us")?;
+    let word = answer.ok().context("the question is refused")?.word();
+    println!(rt; "{model}, {kind}: {word:016x}")?;
+    eprintln!(rt; "{model}, {kind}: {took} us")?;
     Ok(())
 }
 
+/// Puts a question to both models.
+fn on_both(rt: &HostRuntime, kind: &str, lines: &[Line]) -> anyhow::Result<()> {
+    measure(rt, "random outcomes", &models::random(), kind, lines)?;
+    measure(rt, "chain", &models::chain(), kind, lines)
+}
+
 fn run(rt: &HostRuntime) -> anyhow::Result<()> {
-    for kind in [Kind::Next, Kind::Always, Kind::Until, Kind::Mixed] {
-        measure(rt, "random outcomes", &models::random(), kind)?;
-        measure(rt, "chain", &models::chain(), kind)?;
-    }
-    Ok(())
+    on_both(rt, "Next", &question(next))?;
+    on_both(rt, "Always", &question(always))?;
+    on_both(rt, "Until", &question(until))?;
+    on_both(rt, "Mixed", &question(mixed))
 }
 
 fn main(rt: HostRuntime) -> anyhow::Result<()> {

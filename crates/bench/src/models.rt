@@ -12,10 +12,10 @@ pub(crate) fn random() -> [State; 64] {
     let mut states = [UNMARKED; 64];
     states[0].marks = 1;
     let mut seed = 7u32;
-    for s in 0..64usize {
-        for j in 0..64usize {
+    for state in states.iter_mut() {
+        for outcome in state.outcomes.iter_mut() {
             seed = seed.wrapping_mul(1664525).wrapping_add(1013904223);
-            states[s].outcomes[j] = ((seed >> 16) & 63) as u8;
+            *outcome = ((seed >> 16) & 63) as u8;
         }
     }
     states
@@ -25,10 +25,8 @@ pub(crate) fn random() -> [State; 64] {
 pub(crate) fn chain() -> [State; 64] {
     let mut states = [UNMARKED; 64];
     states[0].marks = 1;
-    let mut below = 0;
-    for s in 1..64u8 {
-        states[s as usize].outcomes = [below; 64];
-        below = s;
+    for (state, below) in states.iter_mut().skip(1).zip(0..63) {
+        state.outcomes = [below; 64];
     }
     states
 }

@@ -2,43 +2,54 @@
 use logic::line::Line;
 use sets::coalition::Coalition;
 
-/// What the lines ask.
-#[derive(Clone, Copy, Debug)]
-pub(crate) enum Kind {
-    Next,
-    Always,
-    Until,
-    Mixed,
+/// The coalition whose turn it is at line number `i`.
+fn who(i: u16) -> Coalition {
+    Coalition::new((i & 63) as u8)
 }
 
-/// Line number `i` of a question whose first lines are mark 0, its negation and true.
-fn line(kind: Kind, i: usize) -> Line {
-    let c = Coalition::new((i & 63) as u8);
-    let last = (i.saturating_sub(1) & 4095) as u16;
-    match kind {
-        Kind::Next => Line::Next(c, last),
-        Kind::Always => Line::Always(c, 1),
-        Kind::Until => Line::Until(c, 2, 0),
-        Kind::Mixed => match i & 7 {
-            0 => Line::Next(c, last),
-            1 => Line::Always(c, 1),
-            2 => Line::Until(c, 2, 0),
-            3 => Line::Not(last),
-            4 => Line::And(last, 1),
-            5 => Line::Or(last, 0),
-            6 => Line::Always(c, last),
-            _ => Line::Until(c, 1, last),
-        },
+/// The line before line number `i`.
+fn last(i: u16) -> u16 {
+    i.saturating_sub(1)
+}
+
+/// What can be brought about in one step, of the line before.
+pub(crate) fn next(i: u16) -> Line {
+    Line::Next(who(i), last(i))
+}
+
+/// What can be kept up for ever, of not mark 0.
+pub(crate) fn always(i: u16) -> Line {
+    Line::Always(who(i), 1)
+}
+
+/// What can be brought about in the end, of mark 0.
+pub(crate) fn until(i: u16) -> Line {
+    Line::Until(who(i), 2, 0)
+}
+
+/// Every kind of line in turn.
+pub(crate) fn mixed(i: u16) -> Line {
+    match i & 7 {
+        0 => next(i),
+        1 => always(i),
+        2 => until(i),
+        3 => Line::Not(last(i)),
+        4 => Line::And(last(i), 1),
+        5 => Line::Or(last(i), 0),
+        6 => Line::Always(who(i), last(i)),
+        _ => Line::Until(who(i), 1, last(i)),
     }
 }
 
-/// The question of this kind.
-pub(crate) fn question(kind: Kind) -> [Line; 4096] {
+/// The question whose first lines are mark 0, its negation and true, and whose other lines `line` gives by their numbers.
+pub(crate) fn question<F: Fn(u16) -> Line>(line: F) -> [Line; 4096]
+    requires { F.IsAlwaysCallable line }
+{
     let mut lines = [Line::Mark(0); 4096];
     lines[1] = Line::Not(0);
     lines[2] = Line::True;
-    for i in 3..4096usize {
-        lines[i] = line(kind, i);
+    for (place, i) in lines.iter_mut().zip(0..4096).skip(3) {
+        *place = line(i);
     }
     lines
 }

@@ -16,8 +16,7 @@ pub(crate) fn ask<G: Game>(
     match evaluate(g, lines, &mut sets) {
         Ok(answer) => at(rt, answer),
         Err(fault) => {
-            let number = fault.number();
-            println!(rt; "refused {number}")?;
+            println!(rt; "refused {}", fault.number())?;
             Ok(())
         }
     }
@@ -25,10 +24,8 @@ pub(crate) fn ask<G: Game>(
 
 fn at(rt: &HostRuntime, states: StateSet) -> anyhow::Result<()> {
     print!(rt; "at:")?;
-    for s in 0..64 {
-        if states.contains(s) {
-            print!(rt; " {s}")?;
-        }
+    for s in (0..64).filter(|s| states.contains(*s)) {
+        print!(rt; " {s}")?;
     }
     println!(rt; "")?;
     Ok(())

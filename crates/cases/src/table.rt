@@ -1,7 +1,7 @@
 //! A table in which agent 0 has two choices and agent 1 has three, and every joint move leads elsewhere.
 use crate::put::ask;
 use ability::own_choice;
-use anyhow::anyhow;
+use anyhow::Context;
 use logic::line::Line;
 use model::state::State;
 use model::table::Table;
@@ -19,9 +19,7 @@ fn end(marks: u16, here: u8) -> State {
 /// From state 0 the joint move j leads to state j + 1, which alone carries mark j.
 fn fan() -> Option<Table> {
     let mut outcomes = [0; 64];
-    for j in 0..6u8 {
-        outcomes[j as usize] = j + 1;
-    }
+    outcomes[..6].copy_from_slice(&[1, 2, 3, 4, 5, 6]);
     let start = State {
         marks: 0,
         counts: [2, 3, 0, 0, 0, 0],
@@ -44,63 +42,56 @@ fn fan() -> Option<Table> {
 /// The own choice of the coalition that each joint move at state 0 agrees with.
 fn own(rt: &HostRuntime, table: &Table, number: u8) -> anyhow::Result<()> {
     print!(rt; "table: own choices of {number}:")?;
-    for j in 0..6 {
-        if let Some(c) = own_choice(table, Coalition::new(number), 0, j) {
-            print!(rt; " {c}")?;
-        }
+    let who = Coalition::new(number);
+    for c in (0..6).filter_map(|j| own_choice(table, who, 0, j)) {
+        print!(rt; " {c}")?;
     }
     println!(rt; "")?;
     Ok(())
 }
 
+/// Whether a coalition can bring about one of two marks in one step.
+fn next_of_two(who: u8, [a, b]: [u8; 2]) -> [Line; 4] {
+    [
+        Line::Mark(a),
+        Line::Mark(b),
+        Line::Or(0, 1),
+        Line::Next(Coalition::new(who), 2),
+    ]
+}
+
+/// Whether a coalition can bring about one of three marks in one step.
+fn next_of_three(who: u8, [a, b, c]: [u8; 3]) -> [Line; 6] {
+    [
+        Line::Mark(a),
+        Line::Mark(b),
+        Line::Or(0, 1),
+        Line::Mark(c),
+        Line::Or(2, 3),
+        Line::Next(Coalition::new(who), 4),
+    ]
+}
+
 /// Another order of the agents, in the joint moves or in the own choices, would change these answers.
 pub(crate) fn table_cases(rt: &HostRuntime) -> anyhow::Result<()> {
-    let Some(table) = fan() else {
-        return Err(anyhow!("the table breaks the ranges"));
-    };
+    let table = fan().context("the table breaks the ranges")?;
     for number in 0..4 {
         own(rt, &table, number)?;
     }
-    let first = Coalition::new(1);
-    let second = Coalition::new(2);
-    let even = [
-        Line::Mark(0),
-        Line::Mark(2),
-        Line::Or(0, 1),
-        Line::Mark(4),
-        Line::Or(2, 3),
-        Line::Next(first, 4),
+    let questions: [(&str, &[Line]); 4] = [
+        (
+            "table: next 1 of mark 0, 2 or 4",
+            &next_of_three(1, [0, 2, 4]),
+        ),
+        (
+            "table: next 1 of mark 0, 1 or 2",
+            &next_of_three(1, [0, 1, 2]),
+        ),
+        ("table: next 2 of mark 2 or 3", &next_of_two(2, [2, 3])),
+        ("table: next 2 of mark 1 or 4", &next_of_two(2, [1, 4])),
     ];
-    ask(rt, &table, "table: next 1 of mark 0, 2 or 4", &even)?;
-    let low = [
-        Line::Mark(0),
-        Line::Mark(1),
-        Line::Or(0, 1),
-        Line::Mark(2),
-        Line::Or(2, 3),
-        Line::Next(first, 4),
-    ];
-    ask(rt, &table, "table: next 1 of mark 0, 1 or 2", &low)?;
-    ask(
-        rt,
-        &table,
-        "table: next 2 of mark 2 or 3",
-        &[
-            Line::Mark(2),
-            Line::Mark(3),
-            Line::Or(0, 1),
-            Line::Next(second, 2),
-        ],
-    )?;
-    ask(
-        rt,
-        &table,
-        "table: next 2 of mark 1 or 4",
-        &[
-            Line::Mark(1),
-            Line::Mark(4),
-            Line::Or(0, 1),
-            Line::Next(second, 2),
-        ],
-    )
+    for (title, lines) in questions {
+        ask(rt, &table, title, lines)?;
+    }
+    Ok(())
 }

@@ -1,14 +1,16 @@
 //! What the programs share: a job comes from standard input or from a file, a listing goes to standard output.
 #![tactic(auto)]
 
-use anyhow::anyhow;
+ghost use Rattle.std.specs.Prelude.{IsOk, OnOk};
+
+use anyhow::Context;
 use std::io::{Read, Write};
 use std::{env, fs, io};
 
 /// The job: the file that the first argument names, or else all of standard input.
+// No contract can say which bytes a file or a terminal gives.
 pub fn read_job(rt: &HostRuntime) -> io::Result<Vec<u8>> {
-    let mut args = env::args(rt)?.skip(1);
-    if let Some(path) = args.next() {
+    if let Some(path) = env::args(rt)?.nth(1) {
         return fs::read(rt, path.as_str());
     }
     let mut job = Vec::new(rt.alloc());
@@ -17,10 +19,10 @@ pub fn read_job(rt: &HostRuntime) -> io::Result<Vec<u8>> {
 }
 
 /// Prints a listing; a refusal then ends the program with a status that isn't 0.
-pub fn show(rt: &HostRuntime, listing: &[u8], refused: bool) -> anyhow::Result<()> {
+// No contract can say which bytes a terminal takes, nor when it takes them.
+pub fn show<E: Drop>(rt: &HostRuntime, listing: &[u8], outcome: Result<(), E>) -> anyhow::Result<()>
+    ensures { OnOk result (IsOk outcome) }
+{
     rt.stdout().write_all(listing)?;
-    if refused {
-        return Err(anyhow!("the job is refused"));
-    }
-    Ok(())
+    outcome.ok().context("the job is refused")
 }

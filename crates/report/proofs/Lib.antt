@@ -1,2 +1,2 @@
 mod Answering
-mod Decimal
+mod Lengths

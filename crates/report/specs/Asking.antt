@@ -51,6 +51,4 @@ Refuses job room (Question f) =
 -- what it leaves: too few places stay as they are, else the list holds just the line of the refusal
 abbrev pub Leaves : JobFault → List ℕ → List ℕ → Type 0
 Leaves Places s t = Kept s t
-Leaves Length s t = Refilled s t (refused_line (fault_number Length))
-Leaves (Model f) s t = Refilled s t (refused_line (fault_number (Model f)))
-Leaves (Question f) s t = Refilled s t (refused_line (fault_number (Question f)))
+Leaves fault s t = Refilled s t (refused_line (fault_number fault))

@@ -4,6 +4,7 @@ ghost use Rattle.list.specs.Lists.{room, Puts};
 ghost use Rattle.sets.specs.Sets.{limit, member};
 ghost use Rattle.report.specs.Listings.{spaced, states, at_line, refused_line};
 
+use itoa::Buffer;
 use list::List;
 use sets::state_set::StateSet;
 
@@ -12,21 +13,16 @@ fn put(listing: &mut List<u8>, bytes: &[u8])
     requires { length bytes.now ≤ room listing.old }
     ensures { Puts listing.old listing.new bytes.now }
 {
-    match listing.extend(bytes) {
-        Ok(()) => {}
-        Err(_) => unreachable(),
-    }
+    listing.extend(bytes).unwrap();
 }
 
-/// Puts a number in decimal digits.
+/// Puts a number in decimal digits, three at most.
 fn put_number(listing: &mut List<u8>, n: u8)
-    requires { length (decimal n) ≤ room listing.old }
+    requires { 3 ≤ room listing.old }
     ensures { Puts listing.old listing.new (decimal n) }
 {
-    if n >= 10 {
-        put_number(listing, n / 10);
-    }
-    put(listing, &[b'0' + n % 10]);
+    let mut digits = Buffer::new();
+    put(listing, digits.format(n).as_bytes());
 }
 
 /// Puts a state after a space, where it is in the set.

@@ -31,10 +31,7 @@ fn answer(job: &[u8]) -> Result<StateSet, JobFault>
     let mut lines = List::empty(&mut places);
     parse(text, &legend, table.agents(), &mut lines)?;
     let mut sets = [StateSet::empty(); 4096];
-    match evaluate(&table, lines.items(), &mut sets) {
-        Ok(states) => Ok(states),
-        Err(_) => unreachable(),
-    }
+    Ok(evaluate(&table, lines.items(), &mut sets).unwrap())
 }
 
 /// Reads a job, a model file and then question text, and makes the list hold just the listing: where the question holds, or the refusal.
@@ -46,6 +43,7 @@ pub fn ask(job: &[u8], listing: &mut List<u8>) -> Result<(), JobFault>
         return Err(JobFault::Places);
     }
     listing.clear();
+    // kept: with `map_err` and `?` the proof didn't close, since nothing is known of a listing that a closure may have written
     match answer(job) {
         Ok(states) => {
             put_at(listing, states);

@@ -11,19 +11,15 @@ use std::test::Fail;
 
 /// The table of one state with these counts.
 fn table(agents: u8, counts: [u8; 6]) -> Result<Table, Fail> {
-    match lone(agents, counts) {
-        Some(table) => Ok(table),
-        None => Err(Fail::new("no such table")),
-    }
+    Ok(lone(agents, counts).ok_or("no such table")?)
 }
 
 /// The first `count` of three names.
 fn legend(rt: &impl Abort, count: u8) -> Legend {
     let mut legend = Legend::empty();
-    for name in [*b"home    ", *b"b2      ", *b"c       "] {
-        if legend.count() < count {
-            assert!(rt; legend.add(name).is_some());
-        }
+    let names = [*b"home    ", *b"b2      ", *b"c       "];
+    for name in names.into_iter().take(count.into()) {
+        assert!(rt; legend.add(name).is_some());
     }
     legend
 }
@@ -32,13 +28,11 @@ fn legend(rt: &impl Abort, count: u8) -> Legend {
 fn refused(rt: &impl Abort, input: &[u8], number: u8, place: usize) -> Result<(), Fail> {
     let mut table = table(3, [2, 1, 2, 0, 0, 0])?;
     let mut names = legend(rt, 1);
-    match read(input, &mut table, &mut names) {
-        Ok(_) => return Err(Fail::new("the file is accepted")),
-        Err(fault) => {
-            assert_eq!(rt; fault.number(), number);
-            assert_eq!(rt; fault.place, place);
-        }
-    }
+    let Err(fault) = read(input, &mut table, &mut names) else {
+        return Err(Fail::new("the file is accepted"));
+    };
+    assert_eq!(rt; fault.number(), number);
+    assert_eq!(rt; fault.place, place);
     assert!(rt; table.states() == 1 && table.agents() == 3);
     assert_eq!(rt; table.marks(0), Some(5));
     assert_eq!(rt; table.choices(0, 2), Some(2));
@@ -51,15 +45,9 @@ fn refused(rt: &impl Abort, input: &[u8], number: u8, place: usize) -> Result<()
 fn accepted(rt: &impl Abort, input: &[u8], count: u8, after: usize) -> Result<Legend, Fail> {
     let mut table = table(3, [2, 1, 2, 0, 0, 0])?;
     let mut names = legend(rt, 3);
-    match read(input, &mut table, &mut names) {
-        Ok(rest) => {
-            assert_eq!(rt; rest.len(), after);
-            for byte in rest {
-                assert!(rt; *byte == 255);
-            }
-        }
-        Err(_) => return Err(Fail::new("the file is refused")),
-    }
+    let rest = read(input, &mut table, &mut names)?;
+    assert_eq!(rt; rest.len(), after);
+    assert!(rt; rest.iter().all(|byte| *byte == 255));
     assert!(rt; table.states() == 1 && table.agents() == 1);
     assert_eq!(rt; table.marks(0), Some(0));
     assert_eq!(rt; table.choices(0, 0), Some(1));
@@ -70,26 +58,23 @@ fn accepted(rt: &impl Abort, input: &[u8], count: u8, after: usize) -> Result<Le
 }
 
 /// The shortest file, and a byte after it.
-fn shortest() -> [u8; 19] {
+pub(crate) fn shortest() -> [u8; 19] {
     [1, 1, 1, 0, 3, 0, 0, 1, 0, 0, 0, 0, 0, 4, 0, 5, 0, 1, 255]
 }
 
 #[test]
 fn lengths(rt: HostRuntime) -> Result<(), Fail> {
     let bytes = shortest();
-    accepted(&rt, &bytes[0..18], 0, 0)?;
+    accepted(&rt, &bytes[..18], 0, 0)?;
     accepted(&rt, &bytes, 0, 1)?;
-    for len in 0..18usize {
-        let place = if len < 4 {
-            0
-        } else if len < 13 {
-            4
-        } else if len < 15 {
-            13
-        } else {
-            15
+    for len in 0..18 {
+        let place = match len {
+            ..4 => 0,
+            ..13 => 4,
+            ..15 => 13,
+            _ => 15,
         };
-        refused(&rt, &bytes[0..len], 1, place)?;
+        refused(&rt, &bytes[..len], 1, place)?;
     }
     Ok(())
 }
@@ -135,18 +120,10 @@ fn rules(rt: HostRuntime) -> Result<(), Fail> {
 /// The shortest file with two marks: `a`, and this name with this number.
 fn named(number: u8, name: [u8; 8]) -> [u8; 38] {
     let mut bytes = [0; 38];
-    let front = *b"\x01\x01\x01\x02\x02\x00a       \x02";
-    for i in 0..15usize {
-        bytes[i] = front[i];
-    }
+    bytes[..15].copy_from_slice(b"\x01\x01\x01\x02\x02\x00a       \x02");
     bytes[15] = number;
-    for i in 0..8usize {
-        bytes[16 + i] = name[i];
-    }
-    let back = shortest();
-    for i in 4..18usize {
-        bytes[20 + i] = back[i];
-    }
+    bytes[16..24].copy_from_slice(&name);
+    bytes[24..].copy_from_slice(&shortest()[4..18]);
     bytes
 }
 
@@ -177,16 +154,10 @@ fn names(rt: HostRuntime) -> Result<(), Fail> {
 fn widest(rt: HostRuntime) -> Result<(), Fail> {
     let mut bytes = [9; 256];
     let made = table(2, [8, 8, 0, 0, 0, 0])?;
-    match write(&made, &legend(&rt, 3), &mut bytes) {
-        Ok(len) => assert_eq!(rt; len, 174),
-        Err(_) => return Err(Fail::new("the table is not written")),
-    }
+    assert_eq!(rt; write(&made, &legend(&rt, 3), &mut bytes)?, 174);
     let mut table = Table::blank();
     let mut names = Legend::empty();
-    match read(&bytes, &mut table, &mut names) {
-        Ok(rest) => assert_eq!(rt; rest.len(), 82),
-        Err(_) => return Err(Fail::new("the file is refused")),
-    }
+    assert_eq!(rt; read(&bytes, &mut table, &mut names)?.len(), 82);
     assert!(rt; table.states() == 1 && table.agents() == 2);
     assert_eq!(rt; table.marks(0), Some(5));
     assert_eq!(rt; table.choices(0, 1), Some(8));
@@ -198,18 +169,14 @@ fn widest(rt: HostRuntime) -> Result<(), Fail> {
 
 /// A ring of 6 positions isn't written with so many names into so many bytes, which stay.
 fn unwritten(rt: &impl Abort, count: u8, room: usize, number: u8) -> Result<(), Fail> {
-    let Ok(ring) = Ring::new(6) else {
-        return Err(Fail::new("no ring"));
-    };
+    let ring = Ring::new(6)?;
     let mut bytes = [9; 256];
     assert!(rt; room <= 256);
-    match write(&ring, &legend(rt, count), &mut bytes[0..room]) {
-        Ok(_) => return Err(Fail::new("the ring is written")),
-        Err(fault) => assert_eq!(rt; fault.number(), number),
-    }
-    for byte in bytes {
-        assert!(rt; byte == 9);
-    }
+    let Err(fault) = write(&ring, &legend(rt, count), &mut bytes[..room]) else {
+        return Err(Fail::new("the ring is written"));
+    };
+    assert_eq!(rt; fault.number(), number);
+    assert!(rt; bytes.iter().all(|byte| *byte == 9));
     Ok(())
 }
 
@@ -219,28 +186,18 @@ fn round(rt: HostRuntime) -> Result<(), Fail> {
     unwritten(&rt, 0, 0, 35)?;
     unwritten(&rt, 1, 0, 36)?;
     unwritten(&rt, 1, 118, 36)?;
-    let Ok(ring) = Ring::new(6) else {
-        return Err(Fail::new("no ring"));
-    };
+    let ring = Ring::new(6)?;
     let mut bytes = [9; 256];
-    match write(&ring, &legend(&rt, 1), &mut bytes) {
-        Ok(len) => assert_eq!(rt; len, 119),
-        Err(_) => return Err(Fail::new("the ring is not written")),
-    }
-    for i in 119..256usize {
-        assert!(rt; bytes[i] == 9);
-    }
+    assert_eq!(rt; write(&ring, &legend(&rt, 1), &mut bytes)?, 119);
+    assert!(rt; bytes[119..].iter().all(|byte| *byte == 9));
     let mut table = Table::blank();
     let mut names = Legend::empty();
-    match read(&bytes[0..119], &mut table, &mut names) {
-        Ok(rest) => assert_eq!(rt; rest.len(), 0),
-        Err(_) => return Err(Fail::new("the file is refused")),
-    }
+    assert_eq!(rt; read(&bytes[..119], &mut table, &mut names)?.len(), 0);
     assert!(rt; table.states() == 6 && table.agents() == 2);
-    for s in 0..7u8 {
+    for s in 0..7 {
         assert_eq!(rt; table.marks(s), ring.marks(s));
         assert_eq!(rt; table.choices(s, 1), ring.choices(s, 1));
-        for j in 0..5u8 {
+        for j in 0..5 {
             assert_eq!(rt; table.out(s, j), ring.out(s, j));
         }
     }
@@ -253,24 +210,20 @@ fn round(rt: HostRuntime) -> Result<(), Fail> {
 fn copies(rt: HostRuntime) -> Result<(), Fail> {
     let input = shortest();
     let mut bytes = [9; 20];
-    match copy(&input, &mut bytes[0..17]) {
-        Err(CopyFault::Write(fault)) => assert_eq!(rt; fault.number(), 36),
-        _ => return Err(Fail::new("there is no room for the file")),
-    }
-    match copy(&input[0..17], &mut bytes) {
-        Err(CopyFault::Read(fault)) => assert!(rt; fault.number() == 1 && fault.place == 15),
-        _ => return Err(Fail::new("the file isn't whole")),
-    }
-    for byte in bytes {
-        assert!(rt; byte == 9);
-    }
-    match copy(&input, &mut bytes) {
-        Ok(len) => assert_eq!(rt; len, 18),
-        Err(_) => return Err(Fail::new("the file isn't copied")),
-    }
-    for i in 0..18usize {
-        assert!(rt; bytes[i] == input[i]);
-    }
+    let Err(CopyFault::Write(fault)) = copy(&input, &mut bytes[..17]) else {
+        return Err(Fail::new("there is no room for the file"));
+    };
+    assert_eq!(rt; fault.number(), 36);
+    let Err(CopyFault::Read(fault)) = copy(&input[..17], &mut bytes) else {
+        return Err(Fail::new("the file isn't whole"));
+    };
+    assert!(rt; fault.number() == 1 && fault.place == 15);
+    assert!(rt; bytes.iter().all(|byte| *byte == 9));
+    let Ok(len) = copy(&input, &mut bytes) else {
+        return Err(Fail::new("the file isn't copied"));
+    };
+    assert_eq!(rt; len, 18);
+    assert_eq!(rt; &bytes[..18], &input[..18]);
     assert!(rt; bytes[18] == 9 && bytes[19] == 9);
     Ok(())
 }
@@ -279,19 +232,15 @@ fn copies(rt: HostRuntime) -> Result<(), Fail> {
 fn restores(rt: HostRuntime) -> Result<(), Fail> {
     let made = table(2, [2, 3, 0, 0, 0, 0])?;
     let mut bytes = [9; 64];
-    match restore(&made, &legend(&rt, 3), &mut bytes[0..57]) {
-        Err(fault) => assert_eq!(rt; fault.number(), 36),
-        Ok(_) => return Err(Fail::new("there is no room for the file")),
-    }
+    let Err(fault) = restore(&made, &legend(&rt, 3), &mut bytes[..57]) else {
+        return Err(Fail::new("there is no room for the file"));
+    };
+    assert_eq!(rt; fault.number(), 36);
     assert!(rt; bytes[0] == 9);
-    match restore(&made, &legend(&rt, 3), &mut bytes) {
-        Ok(back) => {
-            assert_eq!(rt; back.0.choices(0, 1), Some(3));
-            assert_eq!(rt; back.0.marks(0), Some(5));
-            assert_eq!(rt; back.1.find(b"b2"), Some(1));
-        }
-        Err(_) => return Err(Fail::new("the table isn't restored")),
-    }
+    let (back, names) = restore(&made, &legend(&rt, 3), &mut bytes)?;
+    assert_eq!(rt; back.choices(0, 1), Some(3));
+    assert_eq!(rt; back.marks(0), Some(5));
+    assert_eq!(rt; names.find(b"b2"), Some(1));
     assert!(rt; bytes[0] == 1 && bytes[57] == 6 && bytes[58] == 9);
     Ok(())
 }

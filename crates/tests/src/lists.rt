@@ -14,10 +14,10 @@ fn bytes(rt: HostRuntime) -> Result<(), Fail> {
     assert_eq!(rt; list.at(1), Some(2));
     assert!(rt; list.at(2).is_none());
     assert!(rt; list.add(3).is_ok());
-    match list.add(4) {
-        Ok(()) => return Err(Fail::new("a full list takes an item")),
-        Err(full) => assert_eq!(rt; full.number(), 51),
-    }
+    let Err(full) = list.add(4) else {
+        return Err(Fail::new("a full list takes an item"));
+    };
+    assert_eq!(rt; full.number(), 51);
     assert!(rt; list.count() == 3);
     assert_eq!(rt; list.at(2), Some(3));
     list.clear();
@@ -32,11 +32,9 @@ fn lines(rt: HostRuntime) -> Result<(), Fail> {
     let mut list = List::empty(&mut places);
     assert!(rt; list.add(Line::Mark(3)).is_ok());
     assert!(rt; list.items().len() == 1);
-    match list.at(0) {
-        Some(Line::Mark(m)) => {
-            assert_eq!(rt; m, 3);
-            Ok(())
-        },
-        _ => Err(Fail::new("another line")),
-    }
+    let Some(Line::Mark(m)) = list.at(0) else {
+        return Err(Fail::new("another line"));
+    };
+    assert_eq!(rt; m, 3);
+    Ok(())
 }

@@ -9,24 +9,17 @@ use sets::coalition::Coalition;
 use sets::state_set::StateSet;
 use std::test::Fail;
 
-fn ring(positions: u8) -> Result<Ring, Fail> {
-    match Ring::new(positions) {
-        Ok(ring) => Ok(ring),
-        Err(_) => Err(Fail::new("no such ring")),
-    }
-}
-
 #[test]
 fn rings(rt: HostRuntime) -> Result<(), Fail> {
     for positions in [0, 65, 255] {
-        match Ring::new(positions) {
-            Ok(_) => return Err(Fail::new("such a ring is refused")),
-            Err(none) => assert_eq!(rt; none.number(), 38),
-        }
+        let Err(none) = Ring::new(positions) else {
+            return Err(Fail::new("such a ring is refused"));
+        };
+        assert_eq!(rt; none.number(), 38);
     }
-    assert_eq!(rt; ring(1)?.out(0, 1), Some(0));
-    assert_eq!(rt; ring(1)?.out(0, 2), Some(0));
-    let big = ring(64)?;
+    assert_eq!(rt; Ring::new(1)?.out(0, 1), Some(0));
+    assert_eq!(rt; Ring::new(1)?.out(0, 2), Some(0));
+    let big = Ring::new(64)?;
     assert_eq!(rt; big.states(), 64);
     assert_eq!(rt; big.out(63, 1), Some(0));
     assert_eq!(rt; big.out(0, 2), Some(63));
@@ -80,9 +73,7 @@ fn tables(rt: HostRuntime) {
 
 #[test]
 fn veils(rt: HostRuntime) -> Result<(), Fail> {
-    let Some(table) = lone(1, [1; 6]) else {
-        return Err(Fail::new("no table"));
-    };
+    let table = lone(1, [1; 6]).ok_or("no table")?;
     let veil = Veil::new(Veil::new(table, 7), 12);
     assert_eq!(rt; veil.marks(0), Some(4));
     assert_eq!(rt; veil.marks(1), None);
@@ -92,7 +83,7 @@ fn veils(rt: HostRuntime) -> Result<(), Fail> {
 
 #[test]
 fn abilities(rt: HostRuntime) -> Result<(), Fail> {
-    let ring = ring(6)?;
+    let ring = Ring::new(6)?;
     let all = StateSet::below(6);
     assert!(rt; can(&ring, Coalition::new(0), 0, all));
     assert!(rt; !can(&ring, Coalition::new(4), 0, all));

@@ -15,23 +15,15 @@ fn refused(
     expected: QuestionFault,
     number: u8,
 ) -> Result<(), Fail> {
-    let Ok(ring) = Ring::new(6) else {
-        return Err(Fail::new("no ring"));
-    };
+    let ring = Ring::new(6)?;
     let mut sets = [StateSet::single(9); 8];
-    if room > 8 {
-        return Err(Fail::new("too many sets"));
-    }
-    match evaluate(&ring, lines, &mut sets[0..room]) {
-        Ok(_) => return Err(Fail::new("the question is accepted")),
-        Err(fault) => {
-            assert_eq!(rt; fault, expected);
-            assert_eq!(rt; fault.number(), number);
-        }
-    }
-    for set in sets {
-        assert!(rt; set.word() == 512);
-    }
+    let places = sets.get_mut(..room).ok_or("too many sets")?;
+    let Err(fault) = evaluate(&ring, lines, places) else {
+        return Err(Fail::new("the question is accepted"));
+    };
+    assert_eq!(rt; fault, expected);
+    assert_eq!(rt; fault.number(), number);
+    assert!(rt; sets.iter().all(|set| set.word() == 512));
     Ok(())
 }
 
@@ -75,22 +67,14 @@ fn refusals(rt: HostRuntime) -> Result<(), Fail> {
 
 #[test]
 fn accepted(rt: HostRuntime) -> Result<(), Fail> {
-    let Ok(ring) = Ring::new(6) else {
-        return Err(Fail::new("no ring"));
-    };
+    let ring = Ring::new(6)?;
     let mut sets = [StateSet::single(9); 4];
     let lines = [
         Line::Mark(0),
         Line::Mark(15),
         Line::Next(Coalition::new(3), 0),
     ];
-    match evaluate(&ring, &lines, &mut sets) {
-        Ok(answer) => assert!(rt; answer.word() == 35),
-        Err(_) => return Err(Fail::new("the question is refused")),
-    }
-    assert!(rt; sets[0].word() == 1);
-    assert!(rt; sets[1].word() == 0);
-    assert!(rt; sets[2].word() == 35);
-    assert!(rt; sets[3].word() == 512);
+    assert!(rt; evaluate(&ring, &lines, &mut sets)?.word() == 35);
+    assert_eq!(rt; sets.map(StateSet::word), [1, 0, 35, 512]);
     Ok(())
 }

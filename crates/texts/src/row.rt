@@ -1,5 +1,6 @@
 //! A row of the table: a number of places, a space, and a text in which `$` stands for a line end, `~` for a tab and `^` for a carriage return.
-use std::alloc::{AllocError, Global};
+use anyhow::Context;
+use std::alloc::Global;
 
 #[derive(Drop)]
 pub(crate) struct Row {
@@ -7,26 +8,20 @@ pub(crate) struct Row {
     pub(crate) text: Vec<u8>,
 }
 
-/// The row that a line of input spells.
-pub(crate) fn row_of(heap: Global, line: &[u8]) -> Result<Row, AllocError> {
-    let mut places = 0usize;
-    let mut text = Vec::new(heap);
-    let mut counting = true;
-    for b in line {
-        if counting {
-            if *b == b' ' {
-                counting = false;
-            } else {
-                places = places.wrapping_mul(10).wrapping_add((*b & 15) as usize);
-            }
-        } else {
-            text.push(match *b {
+impl Row {
+    /// The row that a line of input spells.
+    pub(crate) fn read(heap: Global, line: &str) -> anyhow::Result<Row> {
+        let (places, text) = line.split_once(' ').context("a row without a space")?;
+        let places = places.parse().context("a row without a number of places")?;
+        let text = text
+            .bytes()
+            .map(|byte| match byte {
                 b'$' => b'\n',
                 b'~' => b'\t',
                 b'^' => b'\r',
                 other => other,
-            })?;
-        }
+            })
+            .collect(heap)?;
+        Ok(Row { places, text })
     }
-    Ok(Row { places, text })
 }

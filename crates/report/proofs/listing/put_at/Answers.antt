@@ -1,7 +1,7 @@
 use Rattle.std.proofs.Common.{arith}
 use Rattle.sets.specs.Sets.{limit, member}
 use Rattle.list.proofs.Joins.{puts_room, puts_more}
-use Rattle.report.proofs.Decimal.{states-length}
+use Rattle.report.proofs.Lengths.{states-length}
 use Rattle.report.proofs.listing.put_at.Goals as goal
 
 pub put-requires-2 : goal.put-requires-2

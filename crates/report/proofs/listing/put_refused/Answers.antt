@@ -1,10 +1,7 @@
 use Rattle.std.proofs.Common.{arith}
 use Rattle.list.proofs.Joins.{puts_room, puts_more}
-use Rattle.report.proofs.Decimal.{three}
+use Rattle.report.proofs.Lengths.{three}
 use Rattle.report.proofs.listing.put_refused.Goals as goal
-
-pub put_number-requires : goal.put_number-requires
-put_number-requires c = omega (arith, c.requires, puts_room c.put.ensures, three c.args.number c.ranges.number.fits)
 
 pub put-requires-2 : goal.put-requires-2
 put-requires-2 c = omega (arith, c.requires, puts_room c.put.ensures, puts_room c.put_number.ensures, three c.args.number c.ranges.number.fits)

@@ -4,7 +4,7 @@ use Rattle.list.proofs.Joins.{puts_room, puts_more, puts_same}
 use Rattle.file.specs.File.{upto}
 use Rattle.file.proofs.Spanning.{upto_more}
 use Rattle.report.specs.Listings.{spaced}
-use Rattle.report.proofs.Decimal.{states-length}
+use Rattle.report.proofs.Lengths.{states-length}
 use Rattle.report.proofs.listing.put_states.Goals as goal
 
 pub put_state-requires : goal.put_state-requires

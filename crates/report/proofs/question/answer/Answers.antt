@@ -1,4 +1,5 @@
-use Rattle.std.proofs.Common.{ℕ, ◌≤◌, length, ap, ◌∙◌, subst, arith, length-take}
+use Rattle.std.proofs.Common.{ℕ, ◌≤◌, length, refl, ap, ◌∙◌, subst, arith, length-take, Result, Ok, Err, IsOk, MatchResult}
+use Rattle.std.proofs.lemmas.Result.{MatchResult-at_ok}
 use Rattle.list.proofs.Exits.{at_exit}
 use Rattle.model.specs.Kinds.{table_of}
 use Rattle.legend.specs.Legends.{names_of}
@@ -21,14 +22,18 @@ returns-in_err-parse c =
       ),
     )
 
-pub unreachable-requires : goal.unreachable-requires
-unreachable-requires c =
+never_err : {X Y : Type 0} (r : Result X Y) (P : X → Type 0) (Q : Y → Type 0) → MatchResult r P Q → ((y : Y) → Q y → ⊥) → IsOk r
+never_err (Ok x) P Q m n = refl
+never_err (Err y) P Q m n = absurd (n y m)
+
+pub unwrap-requires : goal.unwrap-requires
+unwrap-requires c =
     let l = c.read.new.legend in
     let p = c.in_ok-parse.ensures.cases in
     let few : length c.items.result.now ≤ 4096 =
     omega (arith, ap length c.items.ensures, length-take c.parse.new.lines.count c.parse.new.lines.places.now, p.filled.size, ap length c.empty-lines.ensures.places) in
-    never_refused (table_of c.read.new.table.states c.read.new.table.agents c.read.new.table.rows) l p.formula (parsed_accepts l c.agents.ensures p).spelled.over c.items.result.now
-    (ap question c.items.ensures ∙ p.lines) 4096 few few c.in-Err.field-0 c.in-Err.ensures.0
+    never_err c.evaluate.result _ _ c.evaluate.ensures (λ e refused. never_refused (table_of c.read.new.table.states c.read.new.table.agents c.read.new.table.rows) l p.formula (parsed_accepts l c.agents.ensures p).spelled.over c.items.result.now
+    (ap question c.items.ensures ∙ p.lines) 4096 few few e refused.0)
 
 pub returns : goal.returns
 returns c =
@@ -41,5 +46,5 @@ returns c =
       few = p.short;
       spells = a;
       holds = answered (table_of c.read.new.table.states c.read.new.table.agents c.read.new.table.rows) l p.formula a.spelled.over c.items.result.now
-          (ap question c.items.ensures ∙ p.lines) c.in-Ok.states c.in-Ok.ensures.1.answer;
+          (ap question c.items.ensures ∙ p.lines) c.unwrap.result (MatchResult-at_ok _ _ c.unwrap.result c.unwrap.ensures c.evaluate.ensures).1.answer;
     }
