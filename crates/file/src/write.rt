@@ -7,25 +7,24 @@ use crate::contents::Contents;
 use legend::Legend;
 use list::List;
 use model::game::Game;
+use refusal::Numbered;
+use sets::bits::is_below;
+use thiserror::Error;
 
 /// Why a model isn't written.
-#[derive(Clone, Copy, PartialEq, Eq, Debug)]
+#[derive(Clone, Copy, PartialEq, Eq, Debug, Error)]
 pub enum WriteFault {
-    /// A mark that some state carries has no name.
-    Unnamed,
-    /// Fewer bytes than the file has.
-    Bytes,
+    #[error("a mark that some state carries has no name")]
+    Unnamed = 35,
+    #[error("there are fewer bytes than the file has")]
+    Bytes = 36,
 }
 
-impl WriteFault {
-    /// The refusal's number.
-    pub fn number(self) -> u8
-        ensures { result ≡ fault_number self }
-    {
-        match self {
-            WriteFault::Unnamed => 35,
-            WriteFault::Bytes => 36,
-        }
+impl Numbered for WriteFault {
+    ghost number_of = { fault_number };
+
+    fn number(self) -> u8 {
+        self as u8
     }
 }
 
@@ -33,7 +32,7 @@ impl WriteFault {
 pub fn among(marks: u16, names: u8) -> bool
     ensures { T result ↔ (marks < 2 ^ names) }
 {
-    names >= 16 || marks >> names == 0
+    is_below(u64::from(marks), names)
 }
 
 /// Writes the file of a model and its legend, and answers the file's length; the bytes past it stay as they were.

@@ -1,7 +1,12 @@
 -- The numbers of the refusals of a file.
 use Rattle.std.specs.Prelude.{ℕ}
+use Rattle.refusal.specs.declared.Fault.{Fault}
 use Rattle.reader.specs.declared.fault.FileRule.{FileRule}
 use Rattle.reader.specs.declared.fault.FileRule.TheVariants.{Short, Due, Begin, Name, Mark, Count, Out, End}
+
+-- a rule at a place
+abbrev pub FileFault : Type 0
+FileFault = Fault FileRule
 
 abbrev pub rule_number : FileRule → ℕ
 rule_number Short = 1

@@ -6,6 +6,7 @@ ghost use Rattle.reader.specs.Faults.{rule_number};
 
 use crate::fault::{FileFault, FileRule};
 use file::kind::Kind;
+use refusal::Numbered;
 
 /// The bytes that are not read yet, and the place at which they begin.
 #[derive(Drop)]
@@ -13,15 +14,6 @@ pub(crate) struct Cursor<'a> {
     pub(crate) rest: &'a [u8],
     pub(crate) place: usize,
     ghost fits: { place + length rest.now < 2 ^ 64 },
-}
-
-impl FileRule {
-    /// The fault that this rule is broken at a place.
-    pub(crate) fn at(self, place: usize) -> FileFault
-        ensures { (result.rule ≡ self) × (result.place ≡ place) }
-    {
-        FileFault { rule: self, place }
-    }
 }
 
 impl<'a> Cursor<'a> {

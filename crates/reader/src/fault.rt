@@ -1,49 +1,37 @@
 //! Why a file is refused, and where.
-ghost use Rattle.std.specs.Prelude.{◌≡◌};
 ghost use Rattle.reader.specs.Faults.{rule_number};
 
+use refusal::{Fault, Numbered};
+use thiserror::Error;
+
 /// What a file breaks.
-#[derive(Clone, Copy, PartialEq, Eq, Debug)]
+#[derive(Clone, Copy, PartialEq, Eq, Debug, Error)]
 pub enum FileRule {
-    /// The bytes end before END is whole.
-    Short,
-    /// Another command was due.
-    Due,
-    /// An operand of BEGIN is out of range.
-    Begin,
-    /// NAME breaks a rule.
-    Name,
-    /// STATE has a mark that was not declared.
-    Mark,
-    /// A count or the product of the counts is out of range, or a count past the agents isn't 0.
-    Count,
-    /// OUT is not a state.
-    Out,
-    /// END's number differs from the number of OUTs.
-    End,
+    #[error("the bytes end before END is whole")]
+    Short = 1,
+    #[error("another command was due")]
+    Due = 2,
+    #[error("an operand of BEGIN is out of range")]
+    Begin = 3,
+    #[error("NAME breaks a rule")]
+    Name = 4,
+    #[error("STATE has a mark that was not declared")]
+    Mark = 5,
+    #[error("a count or the product of the counts is out of range, or a count past the agents isn't 0")]
+    Count = 6,
+    #[error("OUT is not a state")]
+    Out = 7,
+    #[error("END's number differs from the number of OUTs")]
+    End = 8,
+}
+
+impl Numbered for FileRule {
+    ghost number_of = { rule_number };
+
+    fn number(self) -> u8 {
+        self as u8
+    }
 }
 
 /// The rule that a file breaks, and the place of the command at which it is found.
-#[derive(Clone, Copy, PartialEq, Eq, Debug)]
-pub struct FileFault {
-    pub rule: FileRule,
-    pub place: usize,
-}
-
-impl FileFault {
-    /// The refusal's number.
-    pub fn number(self) -> u8
-        ensures { result ≡ rule_number self.rule }
-    {
-        match self.rule {
-            FileRule::Short => 1,
-            FileRule::Due => 2,
-            FileRule::Begin => 3,
-            FileRule::Name => 4,
-            FileRule::Mark => 5,
-            FileRule::Count => 6,
-            FileRule::Out => 7,
-            FileRule::End => 8,
-        }
-    }
-}
+pub type FileFault = Fault<FileRule>;

@@ -1,6 +1,6 @@
 //! Reading a whole file.
 ghost use Rattle.std.specs.Prelude.{◌≡◌, MatchResult};
-ghost use Rattle.model.specs.Kinds.{table_of};
+ghost use Rattle.model.specs.Tables.{model_of};
 ghost use Rattle.legend.specs.Legends.{names_of};
 ghost use Rattle.reader.specs.Faults.{rule_number};
 ghost use Rattle.reader.specs.Whole.{Accepts, Rejects};
@@ -24,7 +24,7 @@ struct Whole<'a> {
 
 /// Reads the file at the front of the input.
 fn read_whole(input: &[u8]) -> Result<Whole<'_>, FileFault>
-    ensures { MatchResult result (λ w. Accepts input.now (table_of w.table.states w.table.agents w.table.rows) (names_of w.legend) w.rest.now) (λ f. Rejects input.now (rule_number f.rule) f.place) }
+    ensures { MatchResult result (λ w. Accepts input.now (model_of w.table) (names_of w.legend) w.rest.now) (λ f. Rejects input.now (rule_number f.rule) f.place) }
 {
     let mut cursor = Cursor::new(input);
     let header = read_begin(&mut cursor)?;
@@ -51,7 +51,7 @@ pub fn read<'a>(
     table: &mut Table,
     legend: &mut Legend,
 ) -> Result<&'a [u8], FileFault>
-    ensures { MatchResult result (λ rest. Accepts input.now (table_of table.new.states table.new.agents table.new.rows) (names_of legend.new) rest.now) (λ f. Rejects input.now (rule_number f.rule) f.place × (table.new ≡ table.old) × (legend.new ≡ legend.old)) }
+    ensures { MatchResult result (λ rest. Accepts input.now (model_of table.new) (names_of legend.new) rest.now) (λ f. Rejects input.now (rule_number f.rule) f.place × (table.new ≡ table.old) × (legend.new ≡ legend.old)) }
 {
     let whole = read_whole(input)?;
     *table = whole.table;

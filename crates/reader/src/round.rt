@@ -1,6 +1,6 @@
 //! Reading and writing, one after the other.
 ghost use Rattle.std.specs.Prelude.{◌≡◌, length, MatchResult};
-ghost use Rattle.model.specs.Kinds.{table_of};
+ghost use Rattle.model.specs.Tables.{model_of};
 ghost use Rattle.legend.specs.Legends.{names_of};
 ghost use Rattle.file.specs.Writing.{Refused};
 ghost use Rattle.reader.specs.declared.round.CopyFault.TheVariants as copy;
@@ -12,11 +12,14 @@ use file::write::{WriteFault, write};
 use legend::Legend;
 use model::game::{Game, Marked};
 use model::table::Table;
+use thiserror::Error;
 
 /// Why a file isn't copied: it is refused, or it doesn't fit.
-#[derive(Clone, Copy, PartialEq, Eq, Debug)]
+#[derive(Clone, Copy, PartialEq, Eq, Debug, Error)]
 pub enum CopyFault {
+    #[error("the file is refused: {0}")]
     Read(FileFault),
+    #[error("the file doesn't fit: {0}")]
     Write(WriteFault),
 }
 
@@ -52,7 +55,7 @@ pub fn restore<G: Game>(
     legend: &Legend,
     bytes: &mut [u8],
 ) -> Result<(Table, Legend), WriteFault>
-    ensures { MatchResult result (λ x. Restored (G.Game.model g.now) (names_of legend.now) bytes.old bytes.new (table_of x.0.states x.0.agents x.0.rows) (names_of x.1)) (λ f. Refused (G.Game.model g.now) (names_of legend.now) (length bytes.old) f × (bytes.new ≡ bytes.old)) }
+    ensures { MatchResult result (λ x. Restored (G.Game.model g.now) (names_of legend.now) bytes.old bytes.new (model_of x.0) (names_of x.1)) (λ f. Refused (G.Game.model g.now) (names_of legend.now) (length bytes.old) f × (bytes.new ≡ bytes.old)) }
 {
     write(g, legend, bytes)?;
     let mut table = Table::blank();

@@ -13,6 +13,13 @@ pub trait Numbered: Copy {
     /// The refusal's number.
     fn number(self) -> u8
         ensures { result ≡ number_of self };
+
+    /// The fault that this rule is broken at a place.
+    fn at(self, place: usize) -> Fault<Self>
+        ensures { (result.rule ≡ self) × (result.place ≡ place) }
+    {
+        Fault { rule: self, place }
+    }
 }
 
 /// The rule that an input breaks, and the place at which that is found.

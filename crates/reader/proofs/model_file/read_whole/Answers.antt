@@ -3,6 +3,7 @@ use Rattle.std.proofs.lemmas.Option.{MatchOption-at_some}
 use Rattle.std.proofs.lemmas.Result.{err_from_is_err_and}
 use Rattle.model.specs.Model.{Ranged, Same}
 use Rattle.model.specs.Kinds.{table_of}
+use Rattle.model.specs.Tables.{model_of}
 use Rattle.legend.specs.Legends.{names_of}
 use Rattle.reader.proofs.Going.{sofar_start}
 use Rattle.reader.proofs.Judging.{accepts, rejects}
@@ -67,4 +68,4 @@ returns c =
     let long : length xs ≡ header.states = c.read_states.auto.states ∙ length-take-le _ _ (omega (arith, header.states_ranged.1)) in
     let made = MatchOption-at_some _ _ c.unwrap.result c.unwrap.ensures c.from_states.ensures in
     accepts (whole_file header.states header.agents header.marks names xs (header.agents_ranged, header.states_ranged, header.marks_ranged) l.2 l.1 c.in_ok-total.ensures.kept b e)
-    (subst (λ (n : ℕ). Same (table_of n header.agents xs) (table_of c.unwrap.result.states c.unwrap.result.agents c.unwrap.result.rows)) long made.1)
+    (subst (λ (n : ℕ). Same (table_of n header.agents xs) (model_of c.unwrap.result)) long made.1)

@@ -2,9 +2,8 @@ use Rattle.std.proofs.Common.{◌≡◌, ℕ, ◌+◌, List, [], ◌∷◌, ◌+
 use Rattle.std.specs.Option.{ok_or}
 use Rattle.file.specs.File.{begin, encode}
 use Rattle.file.specs.Reading.{Keeps, Refused, nothing}
-use Rattle.reader.specs.Faults.{rule_number}
 use Rattle.reader.specs.Sofar.{Sofar, named, opening}
-use Rattle.reader.specs.declared.fault.FileFault.{FileFault}
+use Rattle.reader.specs.Faults.{FileFault, rule_number}
 use Rattle.reader.specs.declared.fault.FileRule.TheVariants as rule
 use Rattle.reader.specs.declared.header.Header.{Header}
 use Rattle.reader.proofs.Going.{sofar_more, breaks}
