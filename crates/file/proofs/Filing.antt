@@ -1,9 +1,10 @@
 -- The commands of a file, and that they lead from the first moment to the end.
-use Rattle.std.proofs.Common.{◌≡◌, ℕ, zero, suc, ◌+◌, ◌-◌, ◌<◌, ◌≤◌, true, false, cond, eqb, ltb, List, [], ◌∷◌, ◌++◌, length, get_or, take, sym, refl, ap, ◌∙◌, subst, inl, inr, add-one, arith}
+use Rattle.std.proofs.Common.{◌≡◌, ℕ, zero, suc, ◌+◌, ◌-◌, ◌<◌, ◌≤◌, true, false, List, [], ◌∷◌, ◌++◌, length, get_or, take, sym, refl, ap, ◌∙◌, subst, inl, inr, add-one, arith}
 use Rattle.std.specs.List.{flat_map}
-use Rattle.std.proofs.lemmas.Grind.{flat_map-append}
-use Rattle.std.proofs.lemmas.List.{append-nil, append_assoc, append_cancel_left, length-take-le, get_or_append_left, get_or_push, get_or-take, take_all, take_more, same_from_push, ext_get_or}
-use Rattle.std.proofs.lemmas.Bool.{cases_eq, ne_eqb, lt-ltb, le-ltb, cond-true, cond-false}
+use Rattle.std.proofs.lemmas.Grind.{common_steps, flat_map-append}
+use Rattle.std.proofs.lemmas.Bool.Decides.{nat_tests}
+use Rattle.std.proofs.lemmas.List.{append-nil, append_assoc, append_cancel_left, length-take-le, take_all, take_more, same_from_push, ext_get_or}
+use Rattle.std.proofs.lemmas.Bool.{cases_eq}
 use Rattle.model.specs.Model.{Model, Same, everyone, moves, joint}
 use Rattle.model.proofs.Same.{moves_same}
 use Rattle.legend.specs.Names.{Lawful}
@@ -30,11 +31,7 @@ commands_of M names =
 -- a row of commands spells a row of bytes
 pub joined_upto : {X A : Type 0} (f : X → List A) (g : ℕ → List X) (h : ℕ → List A) (n : ℕ) → ((i : ℕ) → flat_map f (g i) ≡ h i) → flat_map f (upto g n) ≡ upto h n
 joined_upto f g h zero e = refl
-joined_upto f g h (suc n) e =
-    let before = joined_upto f g h n e in
-    let here = e n in
-    let both = flat_map-append f (upto g n) (g n) in
-    cc
+joined_upto f g h (suc n) e = grind (arith, joined_upto f g h n e, e, flat_map-append)
 
 pub names_spelled : (names : List (List ℕ)) (n : ℕ) → flat_map encode (upto (name_at names) n) ≡ upto (name_bytes names) n
 names_spelled names n = joined_upto encode (name_at names) (name_bytes names) n (λ i. append-nil (name_bytes names i))
@@ -46,17 +43,7 @@ pub states_spelled : (M : Model) (n : ℕ) → flat_map encode (upto (state_at M
 states_spelled M n = joined_upto encode (state_at M) (state_bytes M) n (λ s. ap (λ (l : List ℕ). encode (state (M.marks s) (counts_at M s)) ++ l) (outs_spelled M s (joint M s)))
 
 pub file_commands : (M : Model) (names : List (List ℕ)) → flat_map encode (commands_of M names) ≡ file_of M names
-file_commands M names =
-    let m = length names in
-    let end = finish (outcomes M M.n) ∷ [] in
-    let a : flat_map encode (upto (name_at names) m ++ (upto (state_at M) M.n ++ end)) ≡ upto (name_bytes names) m ++ (upto (state_bytes M) M.n ++ encode (finish (outcomes M M.n))) =
-    cc (
-      flat_map-append encode (upto (name_at names) m) (upto (state_at M) M.n ++ end),
-      flat_map-append encode (upto (state_at M) M.n) end,
-      names_spelled names m,
-      states_spelled M M.n,
-    ) in
-    ap (λ (l : List ℕ). encode (begin M.k M.n m) ++ l) a ∙ file_parts M names
+file_commands M names = grind (arith, common_steps, flat_map-append, names_spelled names (length names), states_spelled M M.n, file_parts M names)
 
 -- a row of readings, from moment to moment
 pub leads_upto : (at : ℕ → Seen) (f : ℕ → List Command) (n : ℕ) → ((i : ℕ) → i < n → Leads (at i) (f i) (at (i + 1))) → Leads (at 0) (upto f n) (at n)
@@ -81,7 +68,7 @@ module _ (M : Model) (names : List (List ℕ)) where
   within s j = moment (s + 1) (joint M s - j) (outcomes M s + j)
 
   moment_same : (s : ℕ) {l o l' o' : ℕ} → l ≡ l' → o ≡ o' → moment s l o ≡ moment s l' o'
-  moment_same s {l} {o} {l'} {o'} p q = ap (λ (x : ℕ). moment s x o) p ∙ ap (moment s l') q
+  moment_same s {l} {o} {l'} {o'} p q = cc
 
 -- the moment that a row ends in may be another name for the same
 leads_to : {s t u : Seen} {cs : List Command} → t ≡ u → Leads s cs t → Leads s cs u
@@ -90,57 +77,39 @@ leads_to {s} {cs = cs} e a = subst (Leads s cs) e a
 -- an item of a row of single items
 pub get_or-upto : {X : Type 0} (f : ℕ → X) (n i : ℕ) (d : X) → i < n → get_or (upto (λ j. f j ∷ []) n) i d ≡ f i
 get_or-upto f zero i d l = absurd (omega arith)
-get_or-upto f (suc n) i d l =
-    let row = upto (λ j. f j ∷ []) n in
-    let long : length row ≡ n = omega (arith, length-upto (λ j. f j ∷ []) 1 n (λ _ _. refl)) in
-    elim (cases_eq i n) [
-      | inl e ↦ get_or_push row (f n) d i (long ∙ sym e) ∙ ap f (sym e)
-      | inr h ↦ get_or_append_left row (f n ∷ []) d i (omega arith) ∙ get_or-upto f n i d (omega arith)
-    ]
+get_or-upto f (suc n) i d l = grind (arith, common_steps, get_or-upto f n i d, length-upto (λ j. f j ∷ []) 1 n (λ _ _. refl))
 
 -- the counts as they are written
 pub count_written : (M : Model) (s a : ℕ) → a < 6 → get_or (counts_at M s) a 0 ≡ count_of M s a
 count_written M s a l = get_or-upto (count_of M s) 6 a 0 l
 
 pub count_below : (M : Model) (s a : ℕ) → M.k ≤ 6 → a < M.k → get_or (counts_at M s) a 0 ≡ M.d s a
-count_below M s a six l = count_written M s a (omega arith) ∙ cond-true (ltb a M.k) (M.d s a) 0 (lt-ltb a M.k l)
+count_below M s a six l = grind (arith, nat_tests, count_written M s a)
 
 pub count_above : (M : Model) (s a : ℕ) → M.k ≤ a → a < 6 → get_or (counts_at M s) a 0 ≡ 0
-count_above M s a h l = count_written M s a l ∙ cond-false (ltb a M.k) (M.d s a) 0 (le-ltb a M.k h)
+count_above M s a h l = grind (arith, nat_tests, count_written M s a)
 
 pub joint_written : (M : Model) (s : ℕ) → M.k ≤ 6 → moves everyone (λ a. get_or (counts_at M s) a 0) M.k ≡ joint M s
 joint_written M s six = moves_same everyone (λ a. get_or (counts_at M s) a 0) (M.d s) M.k (λ a l. count_below M s a six l)
 
 -- the first names alone are lawful too
 pub lawful_take : {names : List (List ℕ)} → Lawful names → (i : ℕ) → i ≤ length names → Lawful (take i names)
-lawful_take {names} law i h =
-    let long = length-take-le i names h in
-    record {
-      few = omega (arith, law.few);
-      each = λ a l. rw (get_or-take i names a [] (omega arith)) (law.each a (omega arith));
-      differ = λ a b l k e. law.differ a b l (omega arith) (sym (get_or-take i names a [] (omega arith)) ∙ e ∙ get_or-take i names b [] (omega arith));
-    }
+lawful_take law i h = grind (arith, common_steps, law.each, law.differ)
 
 -- what is due, from what was told
 module _ (s : Seen) (going : s.ended ≡ false) (some : 1 ≤ s.k) where
-  due_later : {x : ℕ} → cond (ltb (length s.names) s.m) 2 (cond (ltb 0 s.left) 4 (cond (ltb s.states s.n) 3 5)) ≡ x → due s ≡ x
-  due_later e = cond-false s.ended 0 _ going ∙ cond-false (eqb s.k 0) 1 _ (ne_eqb s.k 0 (λ z. omega arith)) ∙ e
-
   pub due_name : length s.names < s.m → due s ≡ 2
-  due_name l = due_later (cond-true (ltb (length s.names) s.m) 2 _ (lt-ltb (length s.names) s.m l))
+  due_name l = grind (arith, nat_tests)
 
   module _ (all : s.m ≤ length s.names) where
-    due-moves : {x : ℕ} → cond (ltb 0 s.left) 4 (cond (ltb s.states s.n) 3 5) ≡ x → due s ≡ x
-    due-moves e = due_later (cond-false (ltb (length s.names) s.m) 2 _ (le-ltb (length s.names) s.m all) ∙ e)
-
     pub due_out : 0 < s.left → due s ≡ 4
-    due_out l = due-moves (cond-true (ltb 0 s.left) 4 _ (lt-ltb 0 s.left l))
+    due_out l = grind (arith, nat_tests)
 
     pub due_state : s.left ≡ 0 → s.states < s.n → due s ≡ 3
-    due_state z l = due-moves (cond-false (ltb 0 s.left) 4 _ (le-ltb 0 s.left (omega arith)) ∙ cond-true (ltb s.states s.n) 3 5 (lt-ltb s.states s.n l))
+    due_state z l = grind (arith, nat_tests)
 
     pub due_end : s.left ≡ 0 → s.n ≤ s.states → due s ≡ 5
-    due_end z l = due-moves (cond-false (ltb 0 s.left) 4 _ (le-ltb 0 s.left (omega arith)) ∙ cond-false (ltb s.states s.n) 3 5 (le-ltb s.states s.n l))
+    due_end z l = grind (arith, nat_tests)
 
 module _ {M : Model} {names : List (List ℕ)} (able : Fileable M names) where
   -- the i-th name
@@ -212,24 +181,20 @@ pub fronts_same : {X : Type 0} (xs ys a b : List X) → length xs ≡ length ys 
 fronts_same [] [] a b l e = (refl, e)
 fronts_same [] (y ∷ ys) a b l e = absurd (omega arith)
 fronts_same (x ∷ xs) [] a b l e = absurd (omega arith)
-fronts_same (x ∷ xs) (y ∷ ys) a b l e =
-    let (p, q) = fronts_same xs ys a b (omega arith) (cc) in
-    (cc, q)
+fronts_same (x ∷ xs) (y ∷ ys) a b l e = grind (arith, fronts_same xs ys a b)
 
 -- the part s of a row stands after the parts before it
 pub upto_front : {X : Type 0} (f : ℕ → List X) (s n : ℕ) → s < n → (w : List X) × (upto f n ≡ upto f s ++ (f s ++ w))
 upto_front f s zero l = absurd (omega arith)
 upto_front f s (suc n) l =
     elim (cases_eq s n) [
-      | inl e ↦ ([], rw (e, append-nil))
-      | inr h ↦
-          let (w, e) = upto_front f s n (omega arith) in
-          (w ++ f n, ap (λ (x : List _). x ++ f n) e ∙ append_assoc (upto f s) (f s ++ w) (f n) ∙ ap (λ (x : List _). upto f s ++ x) (append_assoc (f s) w (f n)))
+      | inl e ↦ ([], grind (arith, common_steps))
+      | inr h ↦ let (w, e) = upto_front f s n (omega arith) in (w ++ f n, grind (arith, common_steps, append_assoc))
     ]
 
 -- one item each: equal rows have equal items
 pub items_same : {X : Type 0} (f g : ℕ → X) (n i : ℕ) → upto (λ j. f j ∷ []) n ≡ upto (λ j. g j ∷ []) n → i < n → f i ≡ g i
-items_same f g n i e l = sym (get_or-upto f n i (f i) l) ∙ ap (λ (x : List _). get_or x i (f i)) e ∙ get_or-upto g n i (f i) l
+items_same f g n i e l = grind (arith, get_or-upto f n i (f i), get_or-upto g n i (f i))
 
 -- two states read off the same commands
 pub record StateSame (M N : Model) (s : ℕ) : Type 0 where
@@ -276,9 +241,7 @@ module _ (M N : Model) (agents : M.k ≡ N.k) (six : M.k ≤ 6) where
     rows_before (suc s) h =
         let e = rows_before s (omega arith) in
         let x = state_here s (omega arith) e in
-        let head : state (M.marks s) (counts_at M s) ≡ state (N.marks s) (counts_at N s) = ap (λ (y : ℕ). state y (counts_at M s)) x.marked ∙ ap (state (N.marks s)) x.counted in
-        let here : state_at M s ≡ state_at N s = ap (λ (y : Command). y ∷ upto (out_at M s) (joint M s)) head ∙ ap (λ (y : List Command). state (N.marks s) (counts_at N s) ∷ y) x.outs in
-        ap (λ (y : List Command). y ++ state_at M s) e ∙ ap (λ (y : List Command). upto (state_at N) s ++ y) here
+        cc (x.marked, x.counted, x.outs)
 
     pub states_same : (s : ℕ) → s < n → StateSame M N s
     states_same s l = state_here s l (rows_before s (omega arith))

@@ -2,7 +2,8 @@
 use Rattle.std.proofs.Common.{◌≡◌, ℕ, ◌+◌, ◌*◌, ◌≤◌, true, false, cond, eqb, ltb, ◌⊎◌, List, [], ◌∷◌, ◌++◌, length, get_or, take, drop, sym, refl, ap, ◌∙◌, subst, inl, inr, arith}
 use Rattle.std.specs.List.{flat_map}
 use Rattle.std.proofs.lemmas.List.{append_assoc, append_cancel_left, length-append, take_at}
-use Rattle.std.proofs.lemmas.Bool.{eq-eqb, ne_eqb, lt-ltb, le-ltb, cond-true, cond-false, true≢false}
+use Rattle.std.proofs.lemmas.Bool.Decides.{nat_tests}
+use Rattle.std.proofs.lemmas.Bool.{cond-true, true≢false}
 use Rattle.file.specs.File.{Command, begin, name, state, out, finish, encode}
 use Rattle.file.specs.Reading.{code, size, Formed, Seen, nothing, due, after, Keeps, broken, Leads, none, more, Fails, absent, other, short, breaks, Refused}
 
@@ -68,16 +69,9 @@ pub long : (c : Command) (r : List ℕ) → Formed c → size (code c) ≤ lengt
 long c r f = omega (arith, length-append (operands c) r, operands_length c f)
 
 pub fails_not : (s : Seen) (c : Command) (r rest : List ℕ) (number : ℕ) → Formed c → code c ≡ due s → Keeps s c → rest ≡ encode c ++ r → Fails s rest number → ⊥
-fails_not s c r rest number f d k e (absent a) =
-    let same : ◌≡◌ {A = List ℕ} [] (code c ∷ (operands c ++ r)) = sym a ∙ e ∙ front c r in
-    let z : ◌≡◌ {A = ℕ} 0 1 = cc in omega arith
-fails_not s c r rest number f d k e (other b x a h) =
-    let same : b ∷ x ≡ code c ∷ (operands c ++ r) = sym a ∙ e ∙ front c r in
-    h (cc)
-fails_not s c r rest number f d k e (short x a l) =
-    let same : due s ∷ x ≡ code c ∷ (operands c ++ r) = sym a ∙ e ∙ front c r in
-    let tail : x ≡ operands c ++ r = cc in
-    omega (arith, ap length tail, ap size d, long c r f)
+fails_not s c r rest number f d k e (absent a) = grind (arith, front c r)
+fails_not s c r rest number f d k e (other b x a h) = grind (arith, front c r)
+fails_not s c r rest number f d k e (short x a l) = grind (arith, front c r, long c r f)
 fails_not s c r rest number f d k e (breaks b x g a o h) =
     h (subst (Keeps s) (encode_once c b r x f g (sym e ∙ a)) k)
 
@@ -87,16 +81,10 @@ verdict s [] = 1
 verdict s (b ∷ r) = cond (eqb b (due s)) (cond (ltb (length r) (size (due s))) 1 (broken s (decode (b ∷ r)))) 2
 
 fails_verdict : {s : Seen} {rest : List ℕ} {a : ℕ} → Fails s rest a → a ≡ verdict s rest
-fails_verdict {s} {rest} (absent e) = sym (ap (verdict s) e)
-fails_verdict {s} {rest} (other b r e h) = sym (ap (verdict s) e ∙ cond-false (eqb b (due s)) _ 2 (ne_eqb b (due s) h))
-fails_verdict {s} {rest} (short r e l) =
-    sym (ap (verdict s) e ∙ cond-true (eqb (due s) (due s)) _ 2 (eq-eqb (due s) (due s) refl) ∙ cond-true (ltb (length r) (size (due s))) 1 _ (lt-ltb (length r) (size (due s)) l))
-fails_verdict {s} {rest} (breaks c r f e d h) =
-    let x = operands c ++ r in
-    sym (ap (verdict s) (e ∙ front c r)
-    ∙ cond-true (eqb (code c) (due s)) _ 2 (eq-eqb (code c) (due s) d)
-    ∙ cond-false (ltb (length x) (size (due s))) 1 _ (le-ltb (length x) (size (due s)) (omega (arith, ap size d, long c r f)))
-    ∙ ap (broken s) (ap decode (sym (front c r)) ∙ decode-encode c f r))
+fails_verdict (absent e) = grind arith
+fails_verdict (other b r e h) = grind (arith, nat_tests)
+fails_verdict (short r e l) = grind (arith, nat_tests)
+fails_verdict (breaks c r f e d h) = grind (arith, nat_tests, front c r, decode-encode c f r, long c r f)
 
 pub fails_once : {s : Seen} {rest : List ℕ} {a b : ℕ} → Fails s rest a → Fails s rest b → a ≡ b
 fails_once x y = fails_verdict x ∙ sym (fails_verdict y)

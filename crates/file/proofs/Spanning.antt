@@ -37,14 +37,15 @@ module _ (M : Model) where
 pub names_length : (l : Legend) (n : ℕ) → n ≤ length (names_of l) → length (upto (name_bytes (names_of l)) n) ≡ n * 10
 names_length l n h = length-upto (name_bytes (names_of l)) 10 n (λ i k. omega (arith, name_eight l i (omega arith)))
 
-pub length_file_of : (M : Model) (l : Legend) → length (file_of M (names_of l)) ≡ 7 + 10 * length (names_of l) + 9 * M.n + 2 * outcomes M M.n
+pub parts_length : (M : Model) (names : List (List ℕ)) → length (file_of M names) ≡ 7 + length (upto (name_bytes names) (length names)) + length (upto (state_bytes M) M.n)
 unfolding file_of
-length_file_of M l =
-    let m = length (names_of l) in
-    let names = upto (name_bytes (names_of l)) m in
+parts_length M names =
     let states = upto (state_bytes M) M.n in
     let end = encode (finish (outcomes M M.n)) in
-    omega (arith, length-append names (states ++ end), length-append states end, names_length l m (omega arith), states-length M M.n)
+    omega (arith, length-append (upto (name_bytes names) (length names)) (states ++ end), length-append states end)
+
+pub length_file_of : (M : Model) (l : Legend) → length (file_of M (names_of l)) ≡ 7 + 10 * length (names_of l) + 9 * M.n + 2 * outcomes M M.n
+length_file_of M l = omega (arith, parts_length M (names_of l), names_length l (length (names_of l)) (omega arith), states-length M M.n)
 
 pub outcomes_more : (M : Model) (s : ℕ) → outcomes M (s + 1) ≡ outcomes M s + joint M s
 outcomes_more M s = rw add-one
@@ -54,10 +55,3 @@ pub file_parts : (M : Model) (names : List (List ℕ)) →
     encode (begin M.k M.n (length names)) ++ (upto (name_bytes names) (length names) ++ (upto (state_bytes M) M.n ++ encode (finish (outcomes M M.n)))) ≡ file_of M names
 unfolding file_of
 file_parts M names = refl
-
-pub parts_length : (M : Model) (names : List (List ℕ)) → length (file_of M names) ≡ 7 + length (upto (name_bytes names) (length names)) + length (upto (state_bytes M) M.n)
-unfolding file_of
-parts_length M names =
-    let states = upto (state_bytes M) M.n in
-    let end = encode (finish (outcomes M M.n)) in
-    omega (arith, length-append (upto (name_bytes names) (length names)) (states ++ end), length-append states end)

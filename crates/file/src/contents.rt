@@ -66,9 +66,14 @@ impl<'a, G: Game> Contents<'a, G> {
     pub(crate) fn length(&self) -> usize
         ensures { result ≡ length (file_of (G.Game.model self.now.game.now) (names_of self.now.legend.now)) }
     {
-        7 + 10 * self.legend.count() as usize
-            + 9 * self.game.states() as usize
-            + 2 * self.total as usize
+        let names = usize::from(self.legend.count());
+        let states = usize::from(self.game.states());
+        let outs = usize::from(self.total);
+        Kind::Begin.length()
+            + Kind::Name.length() * names
+            + Kind::State.length() * states
+            + Kind::Out.length() * outs
+            + Kind::End.length()
     }
 
     /// Puts the file, where there is room for it.

@@ -1,5 +1,5 @@
 //! The kinds of commands.
-ghost use Rattle.std.specs.Prelude.{◌≡◌};
+ghost use Rattle.std.specs.Prelude.{◌≡◌, ◌+◌};
 ghost use Rattle.file.specs.Kinds.{code_of};
 ghost use Rattle.file.specs.Reading.{size};
 
@@ -37,5 +37,12 @@ impl Kind {
             Kind::Out => 1,
             Kind::End => 2,
         }
+    }
+
+    /// How many bytes a command of this kind has, its code among them.
+    pub(crate) fn length(self) -> usize
+        ensures { result ≡ 1 + size (code_of self) }
+    {
+        1 + self.operands()
     }
 }
