@@ -4,19 +4,9 @@ use Rattle.std.proofs.lemmas.Result.{err_from_is_err_and}
 use Rattle.file.specs.File.{Command}
 use Rattle.legend.specs.Names.{Lawful}
 use Rattle.legend.specs.Legends.{names_of}
-use Rattle.legend.proofs.Holding.{none_lawful}
 use Rattle.reader.specs.Sofar.{Sofar, named, opening}
 use Rattle.reader.proofs.Naming.{name_due, names_more}
 use Rattle.reader.proofs.names.read_names.Goals as goal
-
-pub loop-init : goal.loop-init
-loop-init c input so =
-    let k = c.args.header.agents in
-    let n = c.args.header.states in
-    let m = c.args.header.marks in
-    let none = c.empty-legend.ensures in
-    let P : List (List ℕ) → Type 0 = λ l. Sofar input c.args.cursor.now.rest.now c.args.cursor.now.place (opening k n m l) (named k n m l) × (length l ≡ 0) × Lawful l in
-    subst P (sym none) (so, refl, none_lawful)
 
 pub returns-in_err-read_name : goal.returns-in_err-read_name
 returns-in_err-read_name c input so =
