@@ -26,7 +26,7 @@ fn measure(
     let start = Instant::now(rt)?;
     let answer = evaluate(&table, lines, &mut sets);
     let took = start.elapsed(rt)?.as_micros();
-    let word = answer.ok().context("the question is refused")?.word();
+    let word = u64::from(answer.context("the question is refused")?);
     println!(rt; "{model}, {kind}: {word:016x}")?;
     eprintln!(rt; "{model}, {kind}: {took} us")?;
     Ok(())

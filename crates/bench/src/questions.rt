@@ -4,7 +4,7 @@ use sets::coalition::Coalition;
 
 /// The coalition whose turn it is at line number `i`.
 fn who(i: u16) -> Coalition {
-    Coalition::new((i & 63) as u8)
+    Coalition::from((i & 63) as u8)
 }
 
 /// The line before line number `i`.

@@ -27,7 +27,7 @@ pub(crate) fn file_cases(rt: &HostRuntime) -> anyhow::Result<()> {
     let mut names = Legend::empty();
     read(&bytes, &mut table, &mut names).map_err(|fault| anyhow!("refused {}", fault.number()))?;
     let home = names.find(b"home").context("the name is lost")?;
-    let both = Coalition::new(3);
+    let both = Coalition::from(3);
     ask(
         rt,
         &table,

@@ -22,10 +22,10 @@ pub(crate) fn ring_cases(rt: &HostRuntime) -> anyhow::Result<()> {
         .ok()
         .context("a ring of 6 positions is refused")?;
     outcomes(rt, &ring)?;
-    let nobody = Coalition::new(0);
-    let first = Coalition::new(1);
-    let second = Coalition::new(2);
-    let both = Coalition::new(3);
+    let nobody = Coalition::from(0);
+    let first = Coalition::from(1);
+    let second = Coalition::from(2);
+    let both = Coalition::from(3);
     let marked = Line::Mark(0);
     let unmarked = Line::Not(0);
     let questions: [(&str, &[Line]); 7] = [

@@ -42,7 +42,7 @@ fn fan() -> Option<Table> {
 /// The own choice of the coalition that each joint move at state 0 agrees with.
 fn own(rt: &HostRuntime, table: &Table, number: u8) -> anyhow::Result<()> {
     print!(rt; "table: own choices of {number}:")?;
-    let who = Coalition::new(number);
+    let who = Coalition::from(number);
     for c in (0..6).filter_map(|j| own_choice(table, who, 0, j)) {
         print!(rt; " {c}")?;
     }
@@ -56,7 +56,7 @@ fn next_of_two(who: u8, [a, b]: [u8; 2]) -> [Line; 4] {
         Line::Mark(a),
         Line::Mark(b),
         Line::Or(0, 1),
-        Line::Next(Coalition::new(who), 2),
+        Line::Next(Coalition::from(who), 2),
     ]
 }
 
@@ -68,7 +68,7 @@ fn next_of_three(who: u8, [a, b, c]: [u8; 3]) -> [Line; 6] {
         Line::Or(0, 1),
         Line::Mark(c),
         Line::Or(2, 3),
-        Line::Next(Coalition::new(who), 4),
+        Line::Next(Coalition::from(who), 4),
     ]
 }
 

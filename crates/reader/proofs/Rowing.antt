@@ -1,9 +1,10 @@
 -- The states of a file, one after another.
-use Rattle.std.proofs.Common.{◌≡◌, ℕ, ◌+◌, ◌<◌, ◌≤◌, ◌≢◌, List, ◌++◌, length, set, sym, refl, ap, ◌∙◌, ap₂, add-one, arith, get_or-set_other, get_or-set_same}
+use Rattle.std.proofs.Common.{◌≡◌, ℕ, ◌+◌, ◌<◌, ◌≢◌, List, ◌++◌, length, set, sym, refl, ap, ◌∙◌, ap₂, add-one, arith, get_or-set_other, get_or-set_same}
 use Rattle.model.specs.Kinds.{nowhere}
 use Rattle.model.specs.declared.state.State.{State}
 use Rattle.file.specs.File.{upto}
 use Rattle.reader.specs.Bodies.{row_commands}
+use Rattle.reader.specs.declared.header.Header.{Header}
 use Rattle.reader.specs.Heads.{Naming, body_seen, state_commands}
 use Rattle.reader.proofs.Naming.{upto_same}
 
@@ -16,5 +17,5 @@ rows_more k xs s x h =
     ∙ rw add-one
 
 -- between two states all names have come
-pub body_naming : (k n m : ℕ) (names : List (List ℕ)) (s total : ℕ) → length names ≡ m → 1 ≤ k → Naming (body_seen k n m names s total)
-body_naming k n m names s total e some = record { going = refl; some = some; all = omega arith }
+pub body_naming : (h : Header) (names : List (List ℕ)) (s total : ℕ) → length names ≡ h.marks → Naming (body_seen h names s total)
+body_naming h names s total e = record { going = refl; some = h.agents_ranged.0; all = omega arith }

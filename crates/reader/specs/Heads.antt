@@ -6,13 +6,14 @@ use Rattle.model.specs.declared.state.State.{State}
 use Rattle.file.specs.File.{Command, state, out, upto}
 use Rattle.file.specs.Reading.{Counts, Seen}
 use Rattle.reader.specs.declared.head.Head.{Head}
+use Rattle.reader.specs.declared.header.Header.{Header}
 
--- a head keeps its rule, for k agents and m marks
-pub record HeadOf (k m : ℕ) (x : Head) : Type 0 where
+-- a head keeps its rule, in a file with this header
+pub record HeadOf (h : Header) (x : Head) : Type 0 where
   pub six : length x.state.counts ≡ 6
-  pub declared : x.state.marks < 2 ^ m
-  pub counts : Counts k x.state.counts
-  pub joint : x.joint ≡ moves everyone (counts_at x.state) k
+  pub declared : x.state.marks < 2 ^ h.marks
+  pub counts : Counts h.agents x.state.counts
+  pub joint : x.joint ≡ moves everyone (counts_at x.state) h.agents
 
 -- the command of an outcome, and those of a state that was read
 abbrev pub out_command : List ℕ → ℕ → List Command
@@ -35,13 +36,13 @@ outs_seen s j = record { k = s.k; n = s.n; m = s.m; names = s.names; states = s.
 abbrev pub state_seen : Seen → ℕ → Seen
 state_seen s j = record { k = s.k; n = s.n; m = s.m; names = s.names; states = s.states + 1; left = 0; outs = s.outs + j; ended = s.ended }
 
--- a state keeps its rules, for n states, k agents and m marks
-pub record Kept (n k m : ℕ) (x : State) : Type 0 where
+-- a state keeps its rules, in a file with this header
+pub record Kept (h : Header) (x : State) : Type 0 where
   pub six : length x.counts ≡ 6
-  pub declared : x.marks < 2 ^ m
-  pub counts : Counts k x.counts
-  pub inside : (j : ℕ) → j < moves everyone (counts_at x) k → slice_index x.outcomes j < n
+  pub declared : x.marks < 2 ^ h.marks
+  pub counts : Counts h.agents x.counts
+  pub inside : (j : ℕ) → j < moves everyone (counts_at x) h.agents → slice_index x.outcomes j < h.states
 
 -- the moment after some states
-abbrev pub body_seen : ℕ → ℕ → ℕ → List (List ℕ) → ℕ → ℕ → Seen
-body_seen k n m names s total = record { k = k; n = n; m = m; names = names; states = s; left = 0; outs = total; ended = false }
+abbrev pub body_seen : Header → List (List ℕ) → ℕ → ℕ → Seen
+body_seen h names s total = record { k = h.agents; n = h.states; m = h.marks; names = names; states = s; left = 0; outs = total; ended = false }

@@ -23,8 +23,8 @@ pub(crate) fn read_states(
     states: &mut [State],
 ) -> Result<u16, FileFault>
     requires { length states.old ≡ header.states }
-    ensures kept { OnOk result ((t : ℕ) → t < header.states → Kept header.states header.agents header.marks (slice_index_or states.new t nowhere)) }
-    ensures reads { (input : List ℕ) (cs : List Command) (names : List (List ℕ)) → length names ≡ header.marks → Reached input cursor.old cs (body_seen header.agents header.states header.marks names 0 0) → MatchResult result (λ total. Reached input cursor.new (cs ++ upto (row_commands header.agents states.new) header.states) (body_seen header.agents header.states header.marks names header.states total)) (λ f. Refused input (rule_number f.rule) f.place) }
+    ensures kept { OnOk result ((t : ℕ) → t < header.states → Kept header (slice_index_or states.new t nowhere)) }
+    ensures reads { (input : List ℕ) (cs : List Command) (names : List (List ℕ)) → length names ≡ header.marks → Reached input cursor.old cs (body_seen header names 0 0) → MatchResult result (λ total. Reached input cursor.new (cs ++ upto (row_commands header.agents states.new) header.states) (body_seen header names header.states total)) (λ f. Refused input (rule_number f.rule) f.place) }
 {
     let mut total = 0;
     for state in states.iter_mut() {

@@ -28,6 +28,7 @@ impl<'a> Cursor<'a> {
     }
 
     /// The operands of the command of this kind that comes next, or a fault at its place, which leaves the cursor there.
+    #[tactic(auto, using(crate::proofs::Failing::absent, crate::proofs::Failing::other, crate::proofs::Failing::short))]
     pub(crate) fn take<const N: usize>(&mut self, kind: Kind) -> Result<[u8; N], FileFault>
         requires { N ≡ size (code_of kind) }
         ensures { MatchResult result (λ operands. (self.old.rest.now ≡ code_of kind ∷ operands ++ self.new.rest.now) × (length operands ≡ N) × (self.new.place ≡ self.old.place + 1 + N)) (λ f. (f.place ≡ self.old.place) × ((s : Seen) → due s ≡ code_of kind → Fails s self.old.rest.now (rule_number f.rule)) × (self.new.rest.now ≡ self.old.rest.now) × (self.new.place ≡ self.old.place)) }

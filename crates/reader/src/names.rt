@@ -30,7 +30,7 @@ fn read_name(cursor: &mut Cursor, legend: &mut Legend) -> Result<(), FileFault>
 
 /// Reads a NAME for each mark.
 pub(crate) fn read_names(cursor: &mut Cursor, header: Header) -> Result<Legend, FileFault>
-    ensures { (input : List ℕ) → Reached input cursor.old (opening header.agents header.states header.marks []) (named header.agents header.states header.marks []) → MatchResult result (λ l. Reached input cursor.new (opening header.agents header.states header.marks (names_of l)) (named header.agents header.states header.marks (names_of l)) × (length (names_of l) ≡ header.marks) × Lawful (names_of l)) (λ f. Refused input (rule_number f.rule) f.place) }
+    ensures { (input : List ℕ) → Reached input cursor.old (opening header []) (named header []) → MatchResult result (λ l. Reached input cursor.new (opening header (names_of l)) (named header (names_of l)) × (length (names_of l) ≡ header.marks) × Lawful (names_of l)) (λ f. Refused input (rule_number f.rule) f.place) }
 {
     let mut legend = Legend::empty();
     for _ in 0..header.marks {

@@ -34,7 +34,7 @@ fn read_outs(cursor: &mut Cursor, states: u8, outcomes: &mut [u8]) -> Result<(),
 
 /// Reads one STATE and its OUTs.
 pub(crate) fn read_state(cursor: &mut Cursor, header: Header) -> Result<Head, FileFault>
-    ensures kept { IfOk result (λ x. Kept header.states header.agents header.marks x.state × (x.joint ≡ moves everyone (counts_at x.state) header.agents)) }
+    ensures kept { IfOk result (λ x. Kept header x.state × (x.joint ≡ moves everyone (counts_at x.state) header.agents)) }
     ensures reads { (input : List ℕ) (cs : List Command) (s : Seen) → Reached input cursor.old cs s → Naming s → s.left ≡ 0 → s.states < s.n → s.k ≡ header.agents → s.m ≡ header.marks → s.n ≡ header.states → MatchResult result (λ x. Reached input cursor.new (cs ++ state_commands header.agents x.state) (state_seen s x.joint)) (λ f. Refused input (rule_number f.rule) f.place) }
 {
     let Head { state, joint } = read_head(cursor, header)?;

@@ -85,16 +85,16 @@ fn veils(rt: HostRuntime) -> Result<(), Fail> {
 fn abilities(rt: HostRuntime) -> Result<(), Fail> {
     let ring = Ring::new(6)?;
     let all = StateSet::below(6);
-    assert!(rt; can(&ring, Coalition::new(0), 0, all));
-    assert!(rt; !can(&ring, Coalition::new(4), 0, all));
-    assert!(rt; !can(&ring, Coalition::new(3), 6, all));
-    assert!(rt; can(&ring, Coalition::new(3), 0, StateSet::single(5)));
-    assert!(rt; !can(&ring, Coalition::new(1), 0, StateSet::single(1)));
-    assert!(rt; can(&ring, Coalition::new(1), 0, StateSet::from_word(3)));
-    assert_eq!(rt; own_choices(&ring, Coalition::new(0), 0), Some(1));
-    assert_eq!(rt; own_choices(&ring, Coalition::new(3), 0), Some(4));
-    assert_eq!(rt; own_choices(&ring, Coalition::new(4), 0), None);
-    assert_eq!(rt; own_choice(&ring, Coalition::new(2), 0, 2), Some(1));
-    assert_eq!(rt; own_choice(&ring, Coalition::new(2), 0, 4), None);
+    assert!(rt; can(&ring, Coalition::from(0), 0, all));
+    assert!(rt; !can(&ring, Coalition::from(4), 0, all));
+    assert!(rt; !can(&ring, Coalition::from(3), 6, all));
+    assert!(rt; can(&ring, Coalition::from(3), 0, StateSet::single(5)));
+    assert!(rt; !can(&ring, Coalition::from(1), 0, StateSet::single(1)));
+    assert!(rt; can(&ring, Coalition::from(1), 0, StateSet::from(3)));
+    assert_eq!(rt; own_choices(&ring, Coalition::from(0), 0), Some(1));
+    assert_eq!(rt; own_choices(&ring, Coalition::from(3), 0), Some(4));
+    assert_eq!(rt; own_choices(&ring, Coalition::from(4), 0), None);
+    assert_eq!(rt; own_choice(&ring, Coalition::from(2), 0, 2), Some(1));
+    assert_eq!(rt; own_choice(&ring, Coalition::from(2), 0, 4), None);
     Ok(())
 }

@@ -23,13 +23,13 @@ fn refused(
     };
     assert_eq!(rt; fault, expected);
     assert_eq!(rt; fault.number(), number);
-    assert!(rt; sets.iter().all(|set| set.word() == 512));
+    assert!(rt; sets.iter().all(|set| u64::from(set) == 512));
     Ok(())
 }
 
 #[test]
 fn refusals(rt: HostRuntime) -> Result<(), Fail> {
-    let three = Coalition::new(4);
+    let three = Coalition::from(4);
     refused(&rt, &[], 8, QuestionFault::Length, 21)?;
     refused(&rt, &[Line::Not(0); 4097], 0, QuestionFault::Length, 21)?;
     refused(&rt, &[Line::Not(0); 4096], 8, QuestionFault::Sets, 22)?;
@@ -58,7 +58,7 @@ fn refusals(rt: HostRuntime) -> Result<(), Fail> {
     )?;
     refused(
         &rt,
-        &[Line::True, Line::Until(Coalition::new(3), 1, 0)],
+        &[Line::True, Line::Until(Coalition::from(3), 1, 0)],
         8,
         QuestionFault::Line(1),
         23,
@@ -72,9 +72,9 @@ fn accepted(rt: HostRuntime) -> Result<(), Fail> {
     let lines = [
         Line::Mark(0),
         Line::Mark(15),
-        Line::Next(Coalition::new(3), 0),
+        Line::Next(Coalition::from(3), 0),
     ];
-    assert!(rt; evaluate(&ring, &lines, &mut sets)?.word() == 35);
+    assert!(rt; u64::from(evaluate(&ring, &lines, &mut sets)?) == 35);
     assert_eq!(rt; sets.map(StateSet::word), [1, 0, 35, 512]);
     Ok(())
 }

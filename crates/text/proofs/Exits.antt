@@ -9,10 +9,9 @@ use Rattle.grammar.specs.Parts.{Wrong, Miss}
 use Rattle.grammar.proofs.Dues.{Only, missed}
 use Rattle.text.specs.declared.token.Token.{Token}
 use Rattle.text.specs.Shown.{shown, Proper}
-use Rattle.text.specs.declared.fault.TextFault.{TextFault}
 use Rattle.text.specs.declared.fault.TextRule.{TextRule}
 use Rattle.text.specs.declared.fault.TextRule.TheVariants as rule
-use Rattle.text.specs.Faults.{rule_number}
+use Rattle.text.specs.Faults.{TextFault, rule_number}
 
 module _ {V : Vocabulary} {W : Formula → List Tok} {text : List ℕ} {pre : List Tok} {from : ℕ} where
   -- a fault with this rule at this place

@@ -8,7 +8,7 @@ use Rattle.legend.specs.Names.{LetterOrDigit, padded, Lawful}
 use Rattle.legend.specs.Legends.{names_of}
 use Rattle.legend.specs.declared.Legend.{Legend}
 use Rattle.grammar.specs.Grammar.{word_of, vocabulary}
-use Rattle.text.specs.declared.fault.TextFault.{TextFault}
+use Rattle.text.specs.Faults.{TextFault}
 use Rattle.text.specs.declared.fault.TextRule.TheVariants as rule
 use Rattle.grammar.proofs.Single.{Apart}
 
@@ -54,9 +54,9 @@ module _ (l : Legend) where
   words_apart k i j h m e = ∥∥₁_elim l.lawful (ℕ_set i j) (λ law. apart (names_of l) law i j h m e)
 
   -- what a look-up of a word answers, as a mark or a fault
-  pub mark_or_fault : (w : List ℕ) → Each w → (place : ℕ) (o : Option ℕ) →
+  pub mark_or_fault : (w : List ℕ) → Each w → (fault : TextFault) (place : ℕ) → (fault.rule ≡ rule.Name) × (fault.place ≡ place) → (o : Option ℕ) →
       MatchOption o ((i : ℕ) → i < length (names_of l) → get_or (names_of l) i [] ≡ padded w → ⊥) (λ i. (i < length (names_of l)) × (get_or (names_of l) i [] ≡ padded w)) →
-      MatchResult {E = TextFault} (ok_or o (record { rule = rule.Name; place = place })) (λ m. (m < length (names_of l)) × (word_of (get_or (names_of l) m []) ≡ w))
+      MatchResult (ok_or o fault) (λ m. (m < length (names_of l)) × (word_of (get_or (names_of l) m []) ≡ w))
       (λ f. (f.rule ≡ rule.Name) × (f.place ≡ place) × ((i : ℕ) → i < length (names_of l) → word_of (get_or (names_of l) i []) ≡ w → ⊥))
-  mark_or_fault w each place None h = (refl, refl, word_unknown w h)
-  mark_or_fault w each place (Some i) h = (h.0, word_known (names_of l) i w each h.1)
+  mark_or_fault w each fault place is None h = (is.0, is.1, word_unknown w h)
+  mark_or_fault w each fault place is (Some i) h = (h.0, word_known (names_of l) i w each h.1)

@@ -13,9 +13,9 @@ use Rattle.grammar.specs.Tokens.{Tok, t_end, Lexes}
 use Rattle.grammar.specs.Grammar.{Vocabulary, Over, joined_by, ahead_by, ahead_tok}
 use Rattle.grammar.specs.Parts.{Miss}
 use Rattle.grammar.proofs.Dues.{Leads}
+use Rattle.text.specs.Faults.{TextFault}
 use Rattle.text.specs.declared.parts.Lead.{Lead}
 use Rattle.text.specs.declared.parts.Lead.TheVariants as lead
-use Rattle.text.specs.declared.fault.TextFault.{TextFault}
 use Rattle.text.specs.declared.parser.Parser.{Parser}
 use Rattle.text.specs.Readings.{lead_tok, joint_line, ahead_line, Stated, Parted, Faulty}
 

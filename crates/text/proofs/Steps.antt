@@ -14,14 +14,13 @@ use Rattle.grammar.specs.Grammar.{Over, Due, print}
 use Rattle.grammar.specs.Parts.{Ends, Wrong, Miss}
 use Rattle.grammar.proofs.Dues.{Only}
 use Rattle.grammar.proofs.Frames.{Frame, lexes_more, wrong_before, lift}
-use Rattle.text.specs.declared.fault.TextFault.{TextFault}
 use Rattle.text.specs.declared.fault.TextRule.TheVariants as rule
 use Rattle.text.specs.declared.parser.Parser.{Parser}
 use Rattle.text.specs.declared.terms.Terms.{Terms}
 use Rattle.text.specs.declared.token.Token.{Token}
 use Rattle.text.specs.Cursors.{Onward}
 use Rattle.text.specs.Shown.{shown, Proper}
-use Rattle.text.specs.Faults.{rule_number}
+use Rattle.text.specs.Faults.{TextFault, rule_number}
 use Rattle.text.specs.Vocabularies.{terms_of}
 use Rattle.text.specs.Readings.{Stated, Parted, Faulty}
 use Rattle.text.proofs.Exits.{astray, told, tok_is, lex_one, lex_some}

@@ -8,9 +8,8 @@ use Rattle.grammar.specs.Parts.{Wrong, Miss}
 use Rattle.grammar.proofs.Frames.{lexes_more, lift, frame_whole}
 use Rattle.grammar.proofs.Dues.{only_end, due_end}
 use Rattle.grammar.proofs.Once.{rejected, accepted}
-use Rattle.text.specs.declared.fault.TextFault.{TextFault}
 use Rattle.text.specs.declared.fault.TextRule.TheVariants as rule
-use Rattle.text.specs.Faults.{rule_number}
+use Rattle.text.specs.Faults.{TextFault, rule_number}
 use Rattle.text.specs.declared.parser.Parser.{Parser}
 use Rattle.text.specs.Vocabularies.{terms_of}
 use Rattle.text.specs.Readings.{Stated, Faulty}

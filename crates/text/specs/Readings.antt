@@ -14,9 +14,8 @@ use Rattle.grammar.specs.declared.Ahead.TheVariants as ahead
 use Rattle.grammar.specs.Tokens.{Tok, t_open, t_close, t_greater, t_until, t_end}
 use Rattle.grammar.specs.Grammar.{print, ahead_tok}
 use Rattle.grammar.specs.Parts.{Ends, Wrong}
-use Rattle.text.specs.declared.fault.TextFault.{TextFault}
 use Rattle.text.specs.declared.parser.Parser.{Parser}
-use Rattle.text.specs.Faults.{rule_number}
+use Rattle.text.specs.Faults.{TextFault, rule_number}
 use Rattle.text.specs.Vocabularies.{terms_of}
 use Rattle.text.specs.declared.parts.Lead.{Lead}
 use Rattle.text.specs.declared.parts.Lead.TheVariants as lead

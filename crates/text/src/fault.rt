@@ -1,43 +1,33 @@
 //! Why a text is refused, and where.
-ghost use Rattle.std.specs.Prelude.{◌≡◌};
 ghost use Rattle.text.specs.Faults.{rule_number};
 
+use refusal::{Fault, Numbered};
+use thiserror::Error;
+
 /// What a text breaks.
-#[derive(Clone, Copy, PartialEq, Eq, Debug)]
+#[derive(Clone, Copy, PartialEq, Eq, Debug, Error)]
 pub enum TextRule {
-    /// There is no such token, or it is not due.
-    Token,
-    /// A name is not in the legend.
-    Name,
-    /// An agent does not exist.
-    Agent,
-    /// A state is due at depth 33.
-    Depth,
-    /// The text is longer than 4,096 bytes.
-    Length,
-    /// The list has fewer places than the question has lines.
-    Places,
+    #[error("there is no such token, or it is not due")]
+    Token = 11,
+    #[error("a name is not in the legend")]
+    Name = 12,
+    #[error("an agent does not exist")]
+    Agent = 13,
+    #[error("a state is due at depth 33")]
+    Depth = 14,
+    #[error("the text is longer than 4,096 bytes")]
+    Length = 15,
+    #[error("the list has fewer places than the question has lines")]
+    Places = 16,
+}
+
+impl Numbered for TextRule {
+    ghost number_of = { rule_number };
+
+    fn number(self) -> u8 {
+        self as u8
+    }
 }
 
 /// The rule that a text breaks, and the place of the token at which it is found.
-#[derive(Clone, Copy, PartialEq, Eq, Debug)]
-pub struct TextFault {
-    pub rule: TextRule,
-    pub place: usize,
-}
-
-impl TextFault {
-    /// The refusal's number.
-    pub fn number(self) -> u8
-        ensures { result ≡ rule_number self.rule }
-    {
-        match self.rule {
-            TextRule::Token => 11,
-            TextRule::Name => 12,
-            TextRule::Agent => 13,
-            TextRule::Depth => 14,
-            TextRule::Length => 15,
-            TextRule::Places => 16,
-        }
-    }
-}
+pub type TextFault = Fault<TextRule>;

@@ -118,7 +118,7 @@ impl<'a> Cursor<'a> {
     {
         let read = self.read()?;
         match read.token {
-            Token::Greater => Ok(Coalition::new(0)),
+            Token::Greater => Ok(Coalition::from(0)),
             Token::Agents(digits) => {
                 let members = terms.members(digits, read.place)?;
                 self.due(Mark::Greater)?;

@@ -19,6 +19,7 @@ use crate::terms::Terms;
 use legend::Legend;
 use list::List;
 use logic::line::Line;
+use refusal::Numbered;
 
 /// How long a text may be.
 const MOST_BYTES: usize = 4096;
@@ -51,10 +52,7 @@ pub fn parse(
 {
     lines.clear();
     if text.len() > MOST_BYTES {
-        return Err(TextFault {
-            rule: TextRule::Length,
-            place: MOST_BYTES,
-        });
+        return Err(TextRule::Length.at(MOST_BYTES));
     }
     let terms = Terms {
         legend: *legend,
@@ -67,8 +65,5 @@ pub fn parse(
         lines: List::empty(&mut places),
     };
     parser.whole()?;
-    lines.fill(parser.lines.items()).map_err(|_| TextFault {
-        rule: TextRule::Places,
-        place: 0,
-    })
+    lines.fill(parser.lines.items()).map_err(|_| TextRule::Places.at(0))
 }

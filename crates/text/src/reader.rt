@@ -12,6 +12,7 @@ use crate::parser::Parser;
 use crate::parts::{Lead, Mark, join_line, path_line};
 use crate::token::{Token, undue};
 use logic::line::Line;
+use refusal::Numbered;
 use sets::coalition::Coalition;
 
 impl<'a, 'b> Parser<'a, 'b> {
@@ -36,10 +37,7 @@ impl<'a, 'b> Parser<'a, 'b> {
         if allow == 0 {
             // kept: a call on `self.cursor` in the fault has no rule in the borrow checker.
             let cursor = self.cursor;
-            return Err(TextFault {
-                rule: TextRule::Depth,
-                place: cursor.past_blanks(),
-            });
+            return Err(TextRule::Depth.at(cursor.past_blanks()));
         }
         let line = self.line(allow - 1)?;
         Ok(self.put(line))

@@ -8,6 +8,7 @@ ghost use Rattle.text.specs.Vocabularies.{terms_of};
 
 use crate::fault::{TextFault, TextRule};
 use legend::Legend;
+use refusal::Numbered;
 use sets::coalition::Coalition;
 
 /// The names that stand for marks, and the number of agents.
@@ -30,7 +31,7 @@ pub(crate) fn coalition(digits: &[u8]) -> Option<Coalition>
         bits += 1 << (d - b'0');
         low = d + 1;
     }
-    Some(Coalition::new(bits))
+    Some(Coalition::from(bits))
 }
 
 impl Terms {
@@ -41,10 +42,7 @@ impl Terms {
     {
         coalition(digits)
             .filter(|members| members.is_among(self.agents))
-            .ok_or(TextFault {
-                rule: TextRule::Agent,
-                place,
-            })
+            .ok_or(TextRule::Agent.at(place))
     }
 
     /// The mark that a word names, or a fault at its place.
@@ -52,9 +50,6 @@ impl Terms {
         requires { (i : ℕ) → i < length word.now → LetterOrDigit (slice_index word.now i) }
         ensures { MatchResult result (λ m. (m < (terms_of self.now).marks) × ((terms_of self.now).word m ≡ word.now)) (λ f. (f.rule ≡ rule.Name) × (f.place ≡ place) × ((i : ℕ) → i < (terms_of self.now).marks → (terms_of self.now).word i ≢ word.now)) }
     {
-        self.legend.find(word).ok_or(TextFault {
-            rule: TextRule::Name,
-            place,
-        })
+        self.legend.find(word).ok_or(TextRule::Name.at(place))
     }
 }

@@ -3,6 +3,7 @@ ghost use Rattle.std.specs.Prelude.{◌≡◌};
 ghost use Rattle.text.specs.declared.fault.TextRule.TheVariants as rule;
 
 use crate::fault::{TextFault, TextRule};
+use refusal::Numbered;
 
 /// A token; names and agents are the part of the text that they fill.
 #[derive(Clone, Copy)]
@@ -35,8 +36,5 @@ pub(crate) fn undue(place: usize) -> TextFault
     ensures rule { result.rule ≡ rule.Token }
     ensures place { result.place ≡ place }
 {
-    TextFault {
-        rule: TextRule::Token,
-        place,
-    }
+    TextRule::Token.at(place)
 }

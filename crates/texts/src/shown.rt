@@ -14,9 +14,9 @@ impl fmt::Display for Shown {
             Line::Not(a) => write!(f, "not({a})"),
             Line::And(a, b) => write!(f, "and({a},{b})"),
             Line::Or(a, b) => write!(f, "or({a},{b})"),
-            Line::Next(who, a) => write!(f, "next({};{a})", who.number()),
-            Line::Always(who, a) => write!(f, "always({};{a})", who.number()),
-            Line::Until(who, a, b) => write!(f, "until({};{a},{b})", who.number()),
+            Line::Next(who, a) => write!(f, "next({};{a})", u8::from(who)),
+            Line::Always(who, a) => write!(f, "always({};{a})", u8::from(who)),
+            Line::Until(who, a, b) => write!(f, "until({};{a},{b})", u8::from(who)),
         }
     }
 }

@@ -40,7 +40,7 @@ fn state_of(operands: [u8; 8]) -> State
 
 /// Reads one STATE.
 pub(crate) fn read_head(cursor: &mut Cursor, header: Header) -> Result<Head, FileFault>
-    ensures head { IfOk result (HeadOf header.agents header.marks) }
+    ensures head { IfOk result (HeadOf header) }
     ensures reads { (input : List ℕ) (cs : List Command) (s : Seen) → Reached input cursor.old cs s → s.ended ≡ false → due s ≡ 3 → s.k ≡ header.agents → s.m ≡ header.marks → MatchResult result (λ x. Reached input cursor.new (cs ++ state x.state.marks x.state.counts ∷ []) (after s (state x.state.marks x.state.counts))) (λ f. Refused input (rule_number f.rule) f.place) }
 {
     let place = cursor.place;

@@ -30,7 +30,7 @@ impl Header {
 
 /// Reads BEGIN.
 pub(crate) fn read_begin(cursor: &mut Cursor) -> Result<Header, FileFault>
-    ensures { (input : List ℕ) → Reached input cursor.old [] nothing → MatchResult result (λ h. Reached input cursor.new (opening h.agents h.states h.marks []) (named h.agents h.states h.marks [])) (λ f. Refused input (rule_number f.rule) f.place) }
+    ensures { (input : List ℕ) → Reached input cursor.old [] nothing → MatchResult result (λ h. Reached input cursor.new (opening h []) (named h [])) (λ f. Refused input (rule_number f.rule) f.place) }
 {
     let place = cursor.place;
     let [agents, states, marks] = cursor.take::<3>(Kind::Begin)?;

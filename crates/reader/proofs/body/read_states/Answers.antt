@@ -13,13 +13,11 @@ pub returns-in_err-head-clause-reads : goal.returns-in_err-head-clause-reads
 returns-in_err-head-clause-reads c input cs names e so =
     let p = err_from_is_err_and c.from_residual.result c.from_residual.ensures.1 in
     let s = c.loop-state.state-index in
-    rw (p.1, p.2) (c.in_err-head.ensures.reads input _ _ (c.loop-state.invariant.2 input cs names e so) (body_naming _ _ _ names s c.loop-state.total e c.args.header.agents_ranged.0) refl (omega (arith, c.loop-state-test.true, c.requires)) refl refl refl)
+    rw (p.1, p.2) (c.in_err-head.ensures.reads input _ _ (c.loop-state.invariant.2 input cs names e so) (body_naming c.args.header names s c.loop-state.total e) refl (omega (arith, c.loop-state-test.true, c.requires)) refl refl refl)
 
 pub loop-state-preserved : goal.loop-state-preserved
 loop-state-preserved c =
-    let k = c.args.header.agents in
-    let n = c.args.header.states in
-    let m = c.args.header.marks in
+    let h = c.args.header in
     let s = c.loop-state.state-index in
     let xs = c.loop-state.states in
     let total = c.loop-state.total in
@@ -29,16 +27,16 @@ loop-state-preserved c =
     let told = c.in_ok-head.ensures in
     let within : s < length xs = omega (arith, c.loop-state-test.true, c.loop-state.auto.states) in (
       omega (arith, inv.0, c.from-total.ensures, told.kept.1, told.kept.0.counts.ranged.product),
-      fill_more nowhere xs s x (λ _ y. Kept n k m y) within inv.1 told.kept.0,
+      fill_more nowhere xs s x (λ _ y. Kept h y) within inv.1 told.kept.0,
       λ input cs names e so.
-          let so1 = told.reads input _ _ (inv.2 input cs names e so) (body_naming k n m names s total e c.args.header.agents_ranged.0) refl (omega (arith, c.loop-state-test.true, c.requires)) refl refl refl in
-          let same = append_assoc cs (upto (row_commands k xs) s) _ ∙ ap (λ (l : List Command). cs ++ l) (rows_more k xs s x within) in
-          let P : List Command → ℕ → Type 0 = λ l i. Sofar input c.read_state.new.cursor.rest.now c.read_state.new.cursor.place l (body_seen k n m names (s + 1) (total + i)) in
-          subst (P (cs ++ upto (row_commands k (set xs s x)) (s + 1))) (sym c.from-total.ensures) (subst (λ (l : List Command). P l joint) same so1),
+          let so1 = told.reads input _ _ (inv.2 input cs names e so) (body_naming h names s total e) refl (omega (arith, c.loop-state-test.true, c.requires)) refl refl refl in
+          let same = append_assoc cs (upto (row_commands h.agents xs) s) _ ∙ ap (λ (l : List Command). cs ++ l) (rows_more h.agents xs s x within) in
+          let P : List Command → ℕ → Type 0 = λ l i. Sofar input c.read_state.new.cursor.rest.now c.read_state.new.cursor.place l (body_seen h names (s + 1) (total + i)) in
+          subst (P (cs ++ upto (row_commands h.agents (set xs s x)) (s + 1))) (sym c.from-total.ensures) (subst (λ (l : List Command). P l joint) same so1),
     )
 
 pub returns-clause-reads : goal.returns-clause-reads
 returns-clause-reads c input cs names e so =
     let done : c.loop-state.state-index ≡ c.args.header.states = omega (arith, c.loop-state-test.false, c.loop-state.auto.state-index-end, c.requires) in
     subst (λ (s : ℕ). Sofar input c.loop-state.cursor.rest.now c.loop-state.cursor.place (cs ++ upto (row_commands c.args.header.agents c.loop-state.states) s)
-    (body_seen c.args.header.agents c.args.header.states c.args.header.marks names s c.loop-state.total)) done (c.loop-state.invariant.2 input cs names e so)
+    (body_seen c.args.header names s c.loop-state.total)) done (c.loop-state.invariant.2 input cs names e so)

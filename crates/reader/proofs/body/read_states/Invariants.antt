@@ -8,10 +8,8 @@ use Rattle.reader.proofs.body.read_states.Given as goal
 
 abbrev pub invariant-loop-state : goal.invariant-loop-state
 invariant-loop-state l =
-    let k = l.header.agents in
-    let n = l.header.states in
-    let m = l.header.marks in
+    let h = l.header in
     (l.total ≤ l.state-index * 64) ×
-    ((t : ℕ) → t < l.state-index → Kept n k m (get_or l.states t nowhere)) ×
-    ((input : List ℕ) (cs : List Command) (names : List (List ℕ)) → length names ≡ m → Reached input l.initial.cursor cs (body_seen k n m names 0 0) →
-    Reached input l.cursor (cs ++ upto (row_commands k l.states) l.state-index) (body_seen k n m names l.state-index l.total))
+    ((t : ℕ) → t < l.state-index → Kept h (get_or l.states t nowhere)) ×
+    ((input : List ℕ) (cs : List Command) (names : List (List ℕ)) → length names ≡ h.marks → Reached input l.initial.cursor cs (body_seen h names 0 0) →
+    Reached input l.cursor (cs ++ upto (row_commands h.agents l.states) l.state-index) (body_seen h names l.state-index l.total))

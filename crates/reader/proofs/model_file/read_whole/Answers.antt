@@ -43,7 +43,7 @@ returns-in_err-read_end c =
     let l = c.in_ok-legend.ensures input h in
     let b = c.in_ok-total.ensures.reads input _ _ l.1 l.0 in
     let p = err_from_is_err_and c.from_residual-in_err-read_end.result c.from_residual-in_err-read_end.ensures.1 in
-    rw (p.1, p.2) (rejects (c.in_err-read_end.ensures input _ _ b (body_naming _ _ _ (names_of c.in_ok-legend.legend) _ _ l.1 header.agents_ranged.0) refl (omega arith) refl))
+    rw (p.1, p.2) (rejects (c.in_err-read_end.ensures input _ _ b (body_naming header (names_of c.in_ok-legend.legend) _ _ l.1) refl (omega arith) refl))
 
 pub unwrap-requires : goal.unwrap-requires
 unwrap-requires c =
@@ -53,7 +53,7 @@ unwrap-requires c =
     let h = c.in_ok-header.ensures input (sofar_start c.new-cursor.ensures) in
     let l = c.in_ok-legend.ensures input h in
     let long : length xs ≡ header.states = c.read_states.auto.states ∙ length-take-le _ _ (omega (arith, header.states_ranged.1)) in
-    given _ c.from_states.result (subst (λ (n : ℕ). Ranged (table_of n header.agents xs)) (sym long) (whole_ranged header.states header.agents header.marks (names_of c.in_ok-legend.legend) xs (header.agents_ranged, header.states_ranged, header.marks_ranged) l.2 l.1 c.in_ok-total.ensures.kept)) c.from_states.ensures
+    given _ c.from_states.result (subst (λ (n : ℕ). Ranged (table_of n header.agents xs)) (sym long) (whole_ranged header (names_of c.in_ok-legend.legend) xs l.2 l.1 c.in_ok-total.ensures.kept)) c.from_states.ensures
 
 pub returns : goal.returns
 returns c =
@@ -64,8 +64,8 @@ returns c =
     let h = c.in_ok-header.ensures input (sofar_start c.new-cursor.ensures) in
     let l = c.in_ok-legend.ensures input h in
     let b = c.in_ok-total.ensures.reads input _ _ l.1 l.0 in
-    let e = c.in_ok-read_end.ensures input _ _ b (body_naming _ _ _ names _ _ l.1 header.agents_ranged.0) refl (omega arith) refl in
+    let e = c.in_ok-read_end.ensures input _ _ b (body_naming header names _ _ l.1) refl (omega arith) refl in
     let long : length xs ≡ header.states = c.read_states.auto.states ∙ length-take-le _ _ (omega (arith, header.states_ranged.1)) in
     let made = MatchOption-at_some _ _ c.unwrap.result c.unwrap.ensures c.from_states.ensures in
-    accepts (whole_file header.states header.agents header.marks names xs (header.agents_ranged, header.states_ranged, header.marks_ranged) l.2 l.1 c.in_ok-total.ensures.kept b e)
+    accepts (whole_file header names xs l.2 l.1 c.in_ok-total.ensures.kept b e)
     (subst (λ (n : ℕ). Same (table_of n header.agents xs) (model_of c.unwrap.result)) long made.1)

@@ -14,7 +14,7 @@ use Rattle.reader.proofs.Naming.{upto_same}
 use Rattle.reader.proofs.outs.read_state.Goals as goal
 
 -- what the state's own command leaves to come
-module _ (h : Header) (head : Head) (of : HeadOf h.agents h.marks head) (s : Seen) (n : Naming s) where
+module _ (h : Header) (head : Head) (of : HeadOf h head) (s : Seen) (n : Naming s) where
   to_come : Naming (after s (state head.state.marks head.state.counts))
   to_come = record { going = n.going; some = n.some; all = n.all }
 

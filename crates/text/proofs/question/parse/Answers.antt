@@ -4,7 +4,7 @@ use Rattle.legend.specs.Legends.{names_of}
 use Rattle.logic.specs.Questions.{question}
 use Rattle.logic.proofs.Asking.{length-question}
 use Rattle.grammar.specs.Grammar.{vocabulary}
-use Rattle.text.specs.declared.fault.TextFault.{TextFault}
+use Rattle.text.specs.Faults.{TextFault}
 use Rattle.text.specs.declared.fault.TextRule.TheVariants as rule
 use Rattle.text.specs.Parsing.{Refuses}
 use Rattle.text.proofs.Wholes.{at_map_err}

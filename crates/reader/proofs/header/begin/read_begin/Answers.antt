@@ -14,7 +14,7 @@ module _ {input rest : List ℕ} {place : ℕ} (so : Sofar input rest place [] n
     (fault : (f.rule ≡ rule.Begin) × (f.place ≡ place)) where
   begun : (o : Option Header) → MatchOption o (Keeps nothing (begin (get_or xs 0 0) (get_or xs 1 0) (get_or xs 2 0)) → ⊥)
       (λ h. (h.agents ≡ get_or xs 0 0) × (h.states ≡ get_or xs 1 0) × (h.marks ≡ get_or xs 2 0)) →
-      MatchResult (ok_or o f) (λ h. Sofar input rest' place' (opening h.agents h.states h.marks []) (named h.agents h.states h.marks [])) (λ g. Refused input (rule_number g.rule) g.place)
+      MatchResult (ok_or o f) (λ h. Sofar input rest' place' (opening h []) (named h [])) (λ g. Refused input (rule_number g.rule) g.place)
   begun None never =
       rw fault.0 (breaks so (begin (get_or xs 0 0) (get_or xs 1 0) (get_or xs 2 0)) rest' tt refl took (spells_begin xs three) never fault.1)
   begun (Some h) same =

@@ -146,7 +146,7 @@ pair-returns t c =
     c.in_ok-left.ensures c.in_ok-right.ensures (moves op.onward refl refl op.cases) (moves end.onward refl refl end.cases) c.join_line.ensures
 
 pub state-returns-then-allow-eq0 : goal.state-returns-then-allow-eq0
-state-returns-then-allow-eq0 t c = faulty_at {d = 0} (omega (arith, c.if-allow-eq0.true)) (record { wrong = too_deep c.past_blanks.ensures })
+state-returns-then-allow-eq0 t c = faulty_at {d = 0} (omega (arith, c.if-allow-eq0.true)) (record { wrong = rw (c.at.ensures.0, c.at.ensures.1) (too_deep c.past_blanks.ensures) })
 
 pub state-returns : goal.state-returns
 state-returns t c =
