@@ -2,7 +2,7 @@ mod Digits
 mod Exits
 mod Naming
 mod Operators
-mod Runs
+mod Passing
 mod Sights
 mod Steps
 mod Wholes

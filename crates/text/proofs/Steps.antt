@@ -48,6 +48,10 @@ moves_token on at e terms lines = moves on terms lines (lex_one (tok_is at e).0)
 lexed_on : {p m : Parser} (us ts : L.List Tok) (to : ℕ) → Reads p m us → Lexes m.cursor.text.now m.cursor.at ts to → Lexes p.cursor.text.now m.cursor.at ts to
 lexed_on {m = m} us ts to r l = subst (λ (x : Bor (L.List ℕ)). Lexes x.now m.cursor.at ts to) r.text l
 
+-- no tokens, and some after others
+pub reads_none : (p : Parser) → Reads p p []
+reads_none p = record { text = refl; terms = refl; lexed = refl }
+
 pub reads_more : {p m q : Parser} {ts us : L.List Tok} → Reads p m ts → Reads m q us → Reads p q (ts ++ us)
 reads_more {p} {m} {q} {ts} {us} a b =
     record { text = b.text ∙ a.text; terms = b.terms ∙ a.terms; lexed = lexes_more p.cursor.text.now p.cursor.at m.cursor.at q.cursor.at ts us a.lexed (lexed_on ts us q.cursor.at a b.lexed) }
@@ -78,9 +82,6 @@ pub stray : {allow : ℕ} {p m : Parser} {Wanted : Tok → Type 0} (f : TextFaul
     Due (terms_of p.terms) (print (terms_of p.terms).word allow) ts t → Only (print (terms_of p.terms).word allow) ts Wanted → Miss m.cursor.text.now m.cursor.at Wanted f.place → Faulty allow pre p f
 stray {p = p} {m} {Wanted} f pre us {ts} same e r t due only miss =
     record { wrong = astray f us ts same e r.lexed t due only (subst (λ (x : Bor (L.List ℕ)). Miss x.now m.cursor.at Wanted f.place) r.text miss) }
-
-pub reads_none : (p : Parser) → Reads p p []
-reads_none p = record { text = refl; terms = refl; lexed = refl }
 
 -- what an earlier place knows of a state
 state_from : {allow : ℕ} {p m q : Parser} {us : L.List Tok} {at : ℕ} → Reads p m us → (h : Stated allow m q at) → Over (terms_of p.terms) h.formula × Reads m q (print (terms_of p.terms).word allow h.formula)

@@ -1,6 +1,6 @@
 pub mod Sizes
 pub mod Cursors
-pub mod Tests
+pub mod Runs
 pub mod Faults
 pub mod Shown
 pub mod Vocabularies

@@ -1,7 +1,6 @@
 //! Question text: from its bytes to the lines of a question.
 #![tactic(auto)]
 
-mod class;
 mod cursor;
 pub mod fault;
 mod lexer;
@@ -9,6 +8,7 @@ mod parser;
 mod parts;
 mod question;
 mod reader;
+mod runs;
 mod terms;
 mod token;
 

@@ -2,11 +2,10 @@
 ghost use Rattle.std.specs.Prelude.{◌≡◌, ℕ, suc, ◌^◌, ◌<◌, [], ◌∷◌, ◌++◌, Decides, MatchResult};
 ghost use Rattle.sets.specs.Sets.{who};
 ghost use Rattle.logic.specs.Questions.{line_of};
-ghost use Rattle.grammar.specs.Tokens.{t_less, t_greater, Lexes};
+ghost use Rattle.grammar.specs.Tokens.{t_less, t_greater};
 ghost use Rattle.grammar.specs.Grammar.{members as members_of, print, joint_tok};
-ghost use Rattle.grammar.specs.Parts.{Wrong, Miss};
-ghost use Rattle.text.specs.declared.fault.TextRule.TheVariants as rule;
-ghost use Rattle.text.specs.Cursors.{Onward};
+ghost use Rattle.grammar.specs.Parts.{Wrong};
+ghost use Rattle.text.specs.Cursors.{Onward, Takes, Lacks};
 ghost use Rattle.text.specs.Faults.{rule_number};
 ghost use Rattle.text.specs.Shown.{shown};
 ghost use Rattle.text.specs.Vocabularies.{terms_of};
@@ -74,7 +73,7 @@ impl<'a> Cursor<'a> {
     /// Reads a token that is due.
     pub(crate) fn due(&mut self, mark: Mark) -> Result<(), TextFault>
         ensures onward { Onward self.old self.new }
-        ensures cases { MatchResult result (λ _. Lexes self.old.text.now self.old.at (mark_tok mark ∷ []) self.new.at) (λ f. (f.rule ≡ rule.Token) × Miss self.old.text.now self.old.at (λ t. t ≡ mark_tok mark) f.place) }
+        ensures cases { MatchResult result (λ _. Takes self.old (mark_tok mark ∷ []) self.new) (Lacks self.old (λ t. t ≡ mark_tok mark)) }
     {
         let read = self.read()?;
         if is_mark(read.token, mark) {
@@ -87,7 +86,7 @@ impl<'a> Cursor<'a> {
     /// Reads what joins two states.
     pub(crate) fn connective(&mut self) -> Result<Joint, TextFault>
         ensures onward { Onward self.old self.new }
-        ensures cases { MatchResult result (λ j. Lexes self.old.text.now self.old.at (joint_tok j ∷ []) self.new.at) (λ f. (f.rule ≡ rule.Token) × Miss self.old.text.now self.old.at (λ t. (j : Joint) × (t ≡ joint_tok j)) f.place) }
+        ensures cases { MatchResult result (λ j. Takes self.old (joint_tok j ∷ []) self.new) (Lacks self.old (λ t. (j : Joint) × (t ≡ joint_tok j))) }
     {
         let read = self.read()?;
         match read.token {
@@ -100,7 +99,7 @@ impl<'a> Cursor<'a> {
     /// Reads what begins a path.
     pub(crate) fn lead(&mut self) -> Result<Lead, TextFault>
         ensures onward { Onward self.old self.new }
-        ensures cases { MatchResult result (λ l. Lexes self.old.text.now self.old.at (lead_tok l ∷ []) self.new.at) (λ f. (f.rule ≡ rule.Token) × Miss self.old.text.now self.old.at (λ t. (l : Lead) × (t ≡ lead_tok l)) f.place) }
+        ensures cases { MatchResult result (λ l. Takes self.old (lead_tok l ∷ []) self.new) (Lacks self.old (λ t. (l : Lead) × (t ≡ lead_tok l))) }
     {
         let read = self.read()?;
         match read.token {
@@ -114,7 +113,7 @@ impl<'a> Cursor<'a> {
     /// Reads what follows `<`: agents or none, and `>`.
     pub(crate) fn members(&mut self, terms: &Terms) -> Result<Coalition, TextFault>
         ensures onward { Onward self.old self.new }
-        ensures cases { MatchResult result (λ m. (who m < 2 ^ (terms_of terms.now).agents) × Lexes self.old.text.now self.old.at (members_of (who m) ++ (t_greater ∷ [])) self.new.at) (λ f. (d : ℕ) → Wrong (terms_of terms.now) (print (terms_of terms.now).word (suc d)) self.old.text.now (t_less ∷ []) self.old.at (rule_number f.rule) f.place) }
+        ensures cases { MatchResult result (λ m. (who m < 2 ^ (terms_of terms.now).agents) × Takes self.old (members_of (who m) ++ (t_greater ∷ [])) self.new) (λ f. (d : ℕ) → Wrong (terms_of terms.now) (print (terms_of terms.now).word (suc d)) self.old.text.now (t_less ∷ []) self.old.at (rule_number f.rule) f.place) }
     {
         let read = self.read()?;
         match read.token {

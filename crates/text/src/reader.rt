@@ -35,7 +35,7 @@ impl<'a, 'b> Parser<'a, 'b> {
         ensures { MatchResult result (λ at. Stated allow self.old self.new at) (λ f. Faulty allow [] self.old f) }
     {
         if allow == 0 {
-            // kept: a call on `self.cursor` in the fault has no rule in the borrow checker.
+            // kept: a shared loan of `self.cursor`, which holds a reference, has no rule in the borrow checker, so it is copied.
             let cursor = self.cursor;
             return Err(TextRule::Depth.at(cursor.past_blanks()));
         }

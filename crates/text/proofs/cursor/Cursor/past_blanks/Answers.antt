@@ -1,6 +1,6 @@
 use Rattle.std.proofs.Common.{rules}
 use Rattle.grammar.specs.Tokens.{Blank}
-use Rattle.text.proofs.Runs.{run_of}
+use Rattle.text.proofs.Passing.{run_of}
 use Rattle.text.proofs.cursor.Cursor.past_blanks.Goals as goal
 
 pub returns : goal.returns

@@ -1,6 +1,6 @@
 use Rattle.std.proofs.Common.{rules}
 use Rattle.grammar.specs.Tokens.{Digit}
-use Rattle.text.proofs.Runs.{run_of}
+use Rattle.text.proofs.Passing.{run_of}
 use Rattle.text.proofs.cursor.Cursor.past_digits.Goals as goal
 
 pub returns : goal.returns

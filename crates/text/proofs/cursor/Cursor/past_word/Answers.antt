@@ -1,6 +1,6 @@
 use Rattle.std.proofs.Common.{rules}
 use Rattle.legend.specs.Names.{LetterOrDigit}
-use Rattle.text.proofs.Runs.{run_of}
+use Rattle.text.proofs.Passing.{run_of}
 use Rattle.text.proofs.cursor.Cursor.past_word.Goals as goal
 
 pub returns : goal.returns

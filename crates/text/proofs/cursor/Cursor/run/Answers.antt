@@ -1,8 +1,8 @@
 use Rattle.std.proofs.Common.{◌+◌, rules, of_calls, true, false, length, drop, sym, ap, subst, ◌∙◌}
 use Rattle.std.proofs.lemmas.Iterator.{IsFirst-from_position, YieldsList-from_slice}
 use Rattle.std.specs.Option.{unwrap_or}
-use Rattle.text.specs.Tests.{Passes}
-use Rattle.text.proofs.Runs.{rest_of, passes_first}
+use Rattle.text.specs.Runs.{Passes}
+use Rattle.text.proofs.Passing.{rest_of, passes_first}
 use Rattle.text.proofs.cursor.Cursor.run.Goals as goal
 
 pub returns : goal.returns

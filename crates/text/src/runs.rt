@@ -1,7 +1,7 @@
 //! Runs of bytes of one class.
 ghost use Rattle.legend.specs.Names.{LetterOrDigit};
 ghost use Rattle.grammar.specs.Tokens.{Blank, Digit, Run};
-ghost use Rattle.text.specs.Tests.{Passes};
+ghost use Rattle.text.specs.Runs.{Passes};
 
 use crate::cursor::Cursor;
 

@@ -5,7 +5,7 @@ use Rattle.std.proofs.lemmas.List.{take_all}
 use Rattle.std.specs.List.{AllWithin, HoldsAt}
 use Rattle.std.specs.Option.{unwrap_or}
 use Rattle.grammar.specs.Tokens.{Run}
-use Rattle.text.specs.Tests.{Passes}
+use Rattle.text.specs.Runs.{Passes}
 
 -- the bytes from a place on
 pub rest_of : (text : List ℕ) (from : ℕ) → take (length text - from) (drop from text) ≡ drop from text
