@@ -1,5 +1,5 @@
 -- How many bytes the states of a set fill.
-use Rattle.std.proofs.Common.{ℕ, zero, suc, ◌*◌, ◌<◌, ◌≤◌, Bool, true, false, cond, [], ◌∷◌, length, decimal, arith, length-append}
+use Rattle.std.proofs.Common.{ℕ, zero, suc, ◌*◌, ◌<◌, ◌≤◌, length, decimal, arith, length-append}
 use Rattle.std.proofs.lemmas.Fmt.{length-decimal-le}
 use Rattle.sets.specs.Sets.{Set}
 use Rattle.file.specs.File.{upto}
@@ -11,11 +11,7 @@ three n byte = length-decimal-le 3 n (omega arith) (omega arith) (omega arith)
 
 -- a state and its space fill at most four bytes
 spaced-length : (X : Set) (s : ℕ) → s < 256 → length (spaced X s) ≤ 4
-spaced-length X s h = go (X s) (three s h)
-  where
-    go : (b : Bool) → length (decimal s) ≤ 3 → length (cond b (32 ∷ decimal s) []) ≤ 4
-    go true k = omega arith
-    go false k = omega arith
+spaced-length X s h = let k = three s h in grind arith
 
 pub states-length : (X : Set) (n : ℕ) → n ≤ 256 → length (upto (spaced X) n) ≤ 4 * n
 states-length X zero h = omega arith
