@@ -3,7 +3,7 @@ use Rattle.std.specs.Prelude.{◌≡◌, ◌≤◌, List}
 use Rattle.grammar.specs.Tokens.{Tok, Lexes}
 use Rattle.grammar.specs.Parts.{Miss}
 use Rattle.text.specs.declared.cursor.Cursor.{Cursor}
-use Rattle.text.specs.declared.fault.TextFault.{TextFault}
+use Rattle.text.specs.Faults.{TextFault}
 use Rattle.text.specs.declared.fault.TextRule.TheVariants as rule
 
 -- on in the same text
