@@ -7,6 +7,7 @@ use logic::line::Line;
 use model::ring::Ring;
 use model::table::Table;
 use reader::read;
+use refusal::Numbered;
 use sets::coalition::Coalition;
 
 /// Writes the ring with mark 0 named `home`, reads the file, and puts a question to the table that was read.

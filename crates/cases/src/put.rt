@@ -2,6 +2,7 @@
 use logic::evaluate;
 use logic::line::Line;
 use model::game::Game;
+use refusal::Numbered;
 use sets::state_set::StateSet;
 
 /// Prints the question's title, then the states where it holds as `at: 0 1 5`, or the number of its refusal.

@@ -4,18 +4,20 @@ ghost use Rattle.report.specs.declared.fault.JobFault.TheVariants as job;
 ghost use Rattle.report.specs.Faults.{fault_number};
 
 use reader::fault::FileFault;
+use refusal::Numbered;
 use text::fault::TextFault;
+use thiserror::Error;
 
 /// Why a job is refused; a fault of its model file or its question is held whole.
-#[derive(Clone, Copy)]
+#[derive(Clone, Copy, PartialEq, Eq, Debug, Error)]
 pub enum JobFault {
-    /// The list has fewer than 512 places.
+    #[error("the list has fewer than 512 places")]
     Places,
-    /// The job is longer than 16,384 bytes.
+    #[error("the job is longer than 16,384 bytes")]
     Length,
-    /// The model file is refused.
+    #[error("the model file is refused: {0}")]
     Model(FileFault),
-    /// The question is refused.
+    #[error("the question is refused: {0}")]
     Question(TextFault),
 }
 
@@ -35,11 +37,10 @@ impl From<TextFault> for JobFault {
     }
 }
 
-impl JobFault {
-    /// The refusal's number.
-    pub fn number(self) -> u8
-        ensures { result ≡ fault_number self }
-    {
+impl Numbered for JobFault {
+    ghost number_of = { fault_number };
+
+    fn number(self) -> u8 {
         match self {
             JobFault::Places => 41,
             JobFault::Length => 42,

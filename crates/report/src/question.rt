@@ -14,6 +14,7 @@ use logic::line::Line;
 use model::game::Game;
 use model::table::Table;
 use reader::read;
+use refusal::Numbered;
 use sets::state_set::StateSet;
 use text::parse;
 

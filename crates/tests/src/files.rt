@@ -6,6 +6,7 @@ use model::game::{Game, Marked};
 use model::ring::Ring;
 use model::table::Table;
 use reader::{CopyFault, copy, read, restore};
+use refusal::Numbered;
 use std::process::Abort;
 use std::test::Fail;
 

@@ -1,6 +1,7 @@
 //! Jobs and their listings.
 use crate::files::shortest;
 use list::List;
+use refusal::Numbered;
 use report::ask;
 use report::fault::JobFault;
 use std::process::Abort;

@@ -1,6 +1,7 @@
 //! The list over places handed in, with bytes and with question lines.
 use list::List;
 use logic::line::Line;
+use refusal::Numbered;
 use std::test::Fail;
 
 #[test]

@@ -5,6 +5,7 @@ use model::ring::Ring;
 use model::state::State;
 use model::table::Table;
 use model::veil::Veil;
+use refusal::Numbered;
 use sets::coalition::Coalition;
 use sets::state_set::StateSet;
 use std::test::Fail;

@@ -2,6 +2,7 @@
 use logic::evaluate;
 use logic::line::{Line, QuestionFault};
 use model::ring::Ring;
+use refusal::Numbered;
 use sets::coalition::Coalition;
 use sets::state_set::StateSet;
 use std::process::Abort;

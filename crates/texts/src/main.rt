@@ -10,6 +10,7 @@ use anyhow::Context;
 use legend::{Legend, pad};
 use list::List;
 use logic::line::Line;
+use refusal::Numbered;
 use text::parse;
 
 /// Reads the text of a row, for two agents, into as many places as the row says, and prints what comes of it.

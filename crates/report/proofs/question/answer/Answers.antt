@@ -1,7 +1,7 @@
 use Rattle.std.proofs.Common.{ℕ, ◌≤◌, length, refl, ap, ◌∙◌, subst, arith, length-take, Result, Ok, Err, IsOk, MatchResult}
 use Rattle.std.proofs.lemmas.Result.{MatchResult-at_ok}
 use Rattle.list.proofs.Exits.{at_exit}
-use Rattle.model.specs.Kinds.{table_of}
+use Rattle.model.specs.Tables.{model_of}
 use Rattle.legend.specs.Legends.{names_of}
 use Rattle.logic.specs.Questions.{question}
 use Rattle.grammar.specs.Grammar.{vocabulary}
@@ -32,7 +32,7 @@ unwrap-requires c =
     let p = c.in_ok-parse.ensures.cases in
     let few : length c.items.result.now ≤ 4096 =
     omega (arith, ap length c.items.ensures, length-take c.parse.new.lines.count c.parse.new.lines.places.now, p.filled.size, ap length c.empty-lines.ensures.places) in
-    never_err c.evaluate.result _ _ c.evaluate.ensures (λ e refused. never_refused (table_of c.read.new.table.states c.read.new.table.agents c.read.new.table.rows) l p.formula (parsed_accepts l c.agents.ensures p).spelled.over c.items.result.now
+    never_err c.evaluate.result _ _ c.evaluate.ensures (λ e refused. never_refused (model_of c.read.new.table) l p.formula (parsed_accepts l c.agents.ensures p).spelled.over c.items.result.now
     (ap question c.items.ensures ∙ p.lines) 4096 few few e refused.0)
 
 pub returns : goal.returns
@@ -45,6 +45,6 @@ returns c =
       formula = p.formula;
       few = p.short;
       spells = a;
-      holds = answered (table_of c.read.new.table.states c.read.new.table.agents c.read.new.table.rows) l p.formula a.spelled.over c.items.result.now
+      holds = answered (model_of c.read.new.table) l p.formula a.spelled.over c.items.result.now
           (ap question c.items.ensures ∙ p.lines) c.unwrap.result (MatchResult-at_ok _ _ c.unwrap.result c.unwrap.ensures c.evaluate.ensures).1.answer;
     }
