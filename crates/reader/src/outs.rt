@@ -38,6 +38,7 @@ pub(crate) fn read_state(cursor: &mut Cursor, header: Header) -> Result<Head, Fi
     ensures reads { (input : List ℕ) (cs : List Command) (s : Seen) → Reached input cursor.old cs s → Naming s → s.left ≡ 0 → s.states < s.n → s.k ≡ header.agents → s.m ≡ header.marks → s.n ≡ header.states → MatchResult result (λ x. Reached input cursor.new (cs ++ state_commands header.agents x.state) (state_seen s x.joint)) (λ f. Refused input (rule_number f.rule) f.place) }
 {
     let Head { state, joint } = read_head(cursor, header)?;
+    // kept: after a loan of a part of `state.outcomes` itself a proof knows none of its bytes.
     let mut outcomes = state.outcomes;
     read_outs(cursor, header.states, &mut outcomes[..joint as usize])?;
     Ok(Head {
