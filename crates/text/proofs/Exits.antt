@@ -1,5 +1,5 @@
 -- How each way out of a reader ends.
-use Rattle.std.proofs.Common.{◌≡◌, ℕ, ◌<◌, ◌≤◌, List, [], ◌∷◌, ◌++◌, length, get_or, sym, refl, subst, inl, inr, arith}
+use Rattle.std.proofs.Common.{◌≡◌, ℕ, ◌<◌, List, [], ◌∷◌, ◌++◌, length, get_or, sym, refl, subst, inl, inr, arith}
 use Rattle.std.proofs.lemmas.Bool.{cases_lt}
 use Rattle.legend.specs.Names.{LetterOrDigit}
 use Rattle.logic.specs.Logic.{Formula}
@@ -28,16 +28,6 @@ module _ {V : Vocabulary} {W : Formula → List Tok} {text : List ℕ} {pre : Li
   -- the same tokens, told otherwise
   pub told : {ts : List Tok} {number place : ℕ} → ts ≡ pre → Wrong V W text ts from number place → Wrong V W text pre from number place
   told {number = number} {place = place} e w = subst (λ (x : List Tok). Wrong V W text x from number place) e w
-
-spells_within : {text : List ℕ} {p q : ℕ} {t : Tok} → p ≤ length text → Spells text p q t → (p ≤ q) × (q ≤ length text)
-spells_within h (Spells.end a b c) = omega arith
-spells_within h (Spells.word a b c d) = (c.ordered, c.within)
-spells_within h (Spells.agents a b c d e) = (c.ordered, c.within)
-spells_within h (Spells.sign a b c) = omega arith
-
--- a token stands inside the text
-pub tok_within : {text : List ℕ} {from p q : ℕ} {t : Tok} → TokAt text from p q t → (from ≤ q) × (q ≤ length text)
-tok_within a = let h = spells_within a.blanks.within a.spells in (omega (arith, a.blanks.ordered, h.0), h.1)
 
 -- a token that is read and known
 pub tok_is : {text : List ℕ} {from p q : ℕ} {t u : Token} → TokAt text from p q (shown t) × Proper t → t ≡ u → TokAt text from p q (shown u) × Proper u
