@@ -38,5 +38,5 @@ module _ {input rest : List ℕ} {place : ℕ} (cs : List Command) (xs : List �
         let left : s.left - j - 1 ≡ s.left - (j + 1) = omega arith in
         let outs : s.outs + j + 1 ≡ s.outs + (j + 1) = omega arith in
         subst (λ (x : List Command). Sofar input rest' place' x (outs_seen s (j + 1))) same
-        (subst (λ (x : ℕ). Sofar input rest' place' ((cs ++ upto (out_command xs) j) ++ out t ∷ []) (record { k = s.k; n = s.n; m = s.m; names = s.names; states = s.states; left = x; outs = s.outs + (j + 1); ended = s.ended })) left
-        (subst (λ (x : ℕ). Sofar input rest' place' ((cs ++ upto (out_command xs) j) ++ out t ∷ []) (record { k = s.k; n = s.n; m = s.m; names = s.names; states = s.states; left = s.left - j - 1; outs = x; ended = s.ended })) outs next))
+        (subst (λ (x : ℕ). Sofar input rest' place' ((cs ++ upto (out_command xs) j) ++ out t ∷ []) (record s { left = x; outs = s.outs + (j + 1) })) left
+        (subst (λ (x : ℕ). Sofar input rest' place' ((cs ++ upto (out_command xs) j) ++ out t ∷ []) (record s { left = s.left - j - 1; outs = x })) outs next))

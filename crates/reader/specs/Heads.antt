@@ -30,11 +30,11 @@ pub record Naming (s : Seen) : Type 0 where
 
 -- the moment j outcomes later
 abbrev pub outs_seen : Seen → ℕ → Seen
-outs_seen s j = record { k = s.k; n = s.n; m = s.m; names = s.names; states = s.states; left = s.left - j; outs = s.outs + j; ended = s.ended }
+outs_seen s j = record s { left = s.left - j; outs = s.outs + j }
 
 -- the moment after one more state with j outcomes
 abbrev pub state_seen : Seen → ℕ → Seen
-state_seen s j = record { k = s.k; n = s.n; m = s.m; names = s.names; states = s.states + 1; left = 0; outs = s.outs + j; ended = s.ended }
+state_seen s j = record s { states = s.states + 1; left = 0; outs = s.outs + j }
 
 -- a state keeps its rules, in a file with this header
 pub record Kept (h : Header) (x : State) : Type 0 where

@@ -68,7 +68,7 @@ returns c =
           append_assoc cs (own ∷ []) (upto (out_command xs) (length xs))
           ∙ ap (λ (l : List Command). cs ++ own ∷ l) (front_commands xs ys head.joint long ∙ ap (upto (out_command (xs ++ ys))) told.head.joint) in
           let P : List Command → ℕ → ℕ → Type 0 = λ l i j.
-          Sofar input c.read_outs.new.cursor.rest.now c.read_outs.new.cursor.place l (record { k = s.k; n = s.n; m = s.m; names = s.names; states = s.states + 1; left = i; outs = s.outs + j; ended = s.ended }) in
+          Sofar input c.read_outs.new.cursor.rest.now c.read_outs.new.cursor.place l (record s { states = s.states + 1; left = i; outs = s.outs + j }) in
           let left_none : moves everyone (counts_at head.state) s.k - length xs ≡ 0 = omega (arith, none, long) in
           subst (λ (l : List Command). P l 0 head.joint) same
           (subst (λ (i : ℕ). P ((cs ++ own ∷ []) ++ upto (out_command xs) (length xs)) i head.joint) left_none
