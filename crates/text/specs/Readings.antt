@@ -43,7 +43,7 @@ abbrev pub ahead_line : Ahead → ℕ → ℕ → logic.Line
 ahead_line ahead.Next A a = logic.Next A a
 ahead_line ahead.Always A a = logic.Always A a
 
--- from p to q: the same text, terms and places, and at least so many bytes more than lines
+-- from p to q: the same text, terms and number of places, and at least so many bytes more than lines
 pub record Spent (more : ℕ) (p q : Parser) : Type 0 where
   pub text : q.cursor.text ≡ p.cursor.text
   pub terms : q.terms ≡ p.terms
