@@ -12,17 +12,13 @@ use sets::coalition::Coalition;
 
 /// Writes the ring with mark 0 named `home`, reads the file, and puts a question to the table that was read.
 pub(crate) fn file_cases(rt: &HostRuntime) -> anyhow::Result<()> {
-    let ring = Ring::new(6)
-        .ok()
-        .context("a ring of 6 positions is refused")?;
+    let ring = Ring::new(6).context("a ring of 6 positions is refused")?;
     let mut legend = Legend::empty();
     pad(b"home")
         .and_then(|name| legend.add(name))
         .context("the name is not taken")?;
     let mut bytes = [0; 256];
-    let len = write(&ring, &legend, &mut bytes)
-        .ok()
-        .context("the ring is not written")?;
+    let len = write(&ring, &legend, &mut bytes).context("the ring is not written")?;
     println!(rt; "ring 6: a file of {len} bytes")?;
     let mut table = Table::blank();
     let mut names = Legend::empty();

@@ -18,9 +18,7 @@ fn outcomes(rt: &HostRuntime, ring: &Ring) -> anyhow::Result<()> {
 
 /// Both agents together, nobody, and each agent alone: the two push in opposite directions.
 pub(crate) fn ring_cases(rt: &HostRuntime) -> anyhow::Result<()> {
-    let ring = Ring::new(6)
-        .ok()
-        .context("a ring of 6 positions is refused")?;
+    let ring = Ring::new(6).context("a ring of 6 positions is refused")?;
     outcomes(rt, &ring)?;
     let nobody = Coalition::from(0);
     let first = Coalition::from(1);

@@ -65,5 +65,7 @@ pub fn parse(
         lines: List::empty(&mut places),
     };
     parser.whole()?;
-    lines.fill(parser.lines.items()).map_err(|_| TextRule::Places.at(0))
+    lines
+        .fill(parser.lines.items())
+        .map_err(|_| TextRule::Places.at(0))
 }

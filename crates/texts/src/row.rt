@@ -1,6 +1,5 @@
 //! A row of the table: a number of places, a space, and a text in which `$` stands for a line end, `~` for a tab and `^` for a carriage return.
-use anyhow::Context;
-use std::alloc::Global;
+use std::alloc::{AllocError, Global};
 
 #[derive(Drop)]
 pub(crate) struct Row {
@@ -9,10 +8,10 @@ pub(crate) struct Row {
 }
 
 impl Row {
-    /// The row that a line of input spells.
-    pub(crate) fn read(heap: Global, line: &str) -> anyhow::Result<Row> {
-        let (places, text) = line.split_once(' ').context("a row without a space")?;
-        let places = places.parse().context("a row without a number of places")?;
+    /// The row that a line of input spells; one without a number has no places.
+    pub(crate) fn read(heap: Global, line: &str) -> Result<Row, AllocError> {
+        let (places, text) = line.split_once(' ').unwrap_or((line, ""));
+        let places = places.parse().unwrap_or(0);
         let text = text
             .bytes()
             .map(|byte| match byte {
