@@ -30,6 +30,7 @@ impl Kind {
     pub fn operands(self) -> usize
         ensures { result ≡ size (code_of self) }
     {
+        // kept: the codes already are the numbers that `as` reads
         match self {
             Kind::Begin => 3,
             Kind::Name => 9,

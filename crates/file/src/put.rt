@@ -13,6 +13,7 @@ use model::pointed::Pointed;
 use std::array;
 
 /// Puts some bytes, one after another.
+// kept: `report` has the same, since a call that another crate can reach may not ask for room
 pub(crate) fn put(bytes: &mut List<u8>, more: &[u8])
     requires { length more.now ≤ room bytes.old }
     ensures { Puts bytes.old bytes.new more.now }

@@ -10,6 +10,7 @@ impl Numbered for QuestionFault {
     ghost number_of = { fault_number };
 
     fn number(self) -> u8 {
+        // kept: a case with a value has no number that `as` could read
         match self {
             QuestionFault::Length => 21,
             QuestionFault::Sets => 22,

@@ -11,6 +11,7 @@ pub trait Numbered: Copy {
     ghost number_of: { Self → ℕ };
 
     /// The refusal's number.
+    // kept: each enum reads its own by `as`, which no generic code can write
     fn number(self) -> u8
         ensures { result ≡ number_of self };
 

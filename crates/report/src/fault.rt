@@ -41,6 +41,7 @@ impl Numbered for JobFault {
     ghost number_of = { fault_number };
 
     fn number(self) -> u8 {
+        // kept: a case with a value has no number that `as` could read
         match self {
             JobFault::Places => 41,
             JobFault::Length => 42,

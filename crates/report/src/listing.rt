@@ -9,6 +9,7 @@ use list::List;
 use sets::state_set::StateSet;
 
 /// Puts some bytes, for which there are places.
+// kept: `file` has the same, since a call that another crate can reach may not ask for room
 fn put(listing: &mut List<u8>, bytes: &[u8])
     requires { length bytes.now ≤ room listing.old }
     ensures { Puts listing.old listing.new bytes.now }

@@ -5,6 +5,7 @@ ghost use Rattle.sets.specs.Sets.{bit, who};
 use crate::bits::{is_below, is_set};
 
 /// A set of agents, as the bits of a number: agent `a` is in it where bit `a` is set.
+// kept: a type beside `StateSet`, though both are a word, so that no set of states passes for a coalition
 #[derive(Clone, Copy, PartialEq, Eq, Debug)]
 pub struct Coalition {
     bits: u8,
