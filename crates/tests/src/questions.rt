@@ -24,7 +24,7 @@ fn refused(
     };
     assert_eq!(rt; fault, expected);
     assert_eq!(rt; fault.number(), number);
-    assert!(rt; sets.iter().all(|set| u64::from(set) == 512));
+    assert!(rt; sets.iter().all(|set| u64::from(*set) == 512));
     Ok(())
 }
 
@@ -76,6 +76,6 @@ fn accepted(rt: HostRuntime) -> Result<(), Fail> {
         Line::Next(Coalition::from(3), 0),
     ];
     assert!(rt; u64::from(evaluate(&ring, &lines, &mut sets)?) == 35);
-    assert_eq!(rt; sets.map(StateSet::word), [1, 0, 35, 512]);
+    assert_eq!(rt; sets.map(u64::from), [1, 0, 35, 512]);
     Ok(())
 }
