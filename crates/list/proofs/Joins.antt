@@ -22,13 +22,14 @@ pub extends_room : {T : Type 0} {s t : List T} {xs : L.List T} → Extends s t x
 extends_room {s = s} {t = t} e = omega (arith, e.count, e.size, t.within)
 
 -- an addition to a list with room for it
-pub added : {T : Type 0} {s t : List T} {x : T} (r : Result Unit Full) → 0 < room s → MatchResult r (λ _. (0 < room s) × Extends s t (x ∷ [])) (λ _. (room s ≡ 0) × Kept s t) → Extends s t (x ∷ [])
+pub added : {T : Type 0} {s t : List T} {x : T} (r : Result Unit Full) → 0 < room s → MatchResult r (λ _. (0 < room s) × Puts s t (x ∷ [])) (λ _. (room s ≡ 0) × Kept s t) → Puts s t (x ∷ [])
 added (Ok u) h c = c.1
 added (Err f) h c = absurd (omega arith)
 
 -- an emptied list that is extended holds just what was added
-pub refilled : {T : Type 0} {s m t : List T} {xs : L.List T} → Emptied s m → Extends m t xs → Refilled s t xs
-refilled {s = s} {m} {t} {xs} e x = record {
+pub refilled : {T : Type 0} {s m t : List T} {xs : L.List T} → Emptied s m → Puts m t xs → Refilled s t xs
+refilled {s = s} {m} {t} {xs} e p = let x = p.extends in record {
+  named = p.named ∙ e.named;
   items = x.items ∙ ap (λ n. take n m.places.now ++ xs) e.count;
   count = omega (arith, e.count, x.count);
   size = x.size ∙ ap length e.places;
@@ -36,7 +37,7 @@ refilled {s = s} {m} {t} {xs} e x = record {
 }
 
 -- an extension of a list with room for it
-pub extended : {T : Type 0} {s t : List T} {xs : L.List T} (r : Result Unit Full) → length xs ≤ room s → MatchResult r (λ _. (length xs ≤ room s) × Extends s t xs) (λ _. (room s < length xs) × Kept s t) → Extends s t xs
+pub extended : {T : Type 0} {s t : List T} {xs : L.List T} (r : Result Unit Full) → length xs ≤ room s → MatchResult r (λ _. (length xs ≤ room s) × Puts s t xs) (λ _. (room s < length xs) × Kept s t) → Puts s t xs
 extended (Ok u) h c = c.1
 extended (Err f) h c = absurd (omega arith)
 

@@ -29,16 +29,19 @@ pub record Puts {T : Type 0} (s t : List T) (xs : L.List T) : Type 0 where
 
 -- t is s, also past its items
 pub record Kept {T : Type 0} (s t : List T) : Type 0 where
+  pub named : t.places.ghost_name ≡ s.places.ghost_name
   pub count : t.count ≡ s.count
   pub places : t.places.now ≡ s.places.now
 
 -- t is empty, over the places of s as they were
 pub record Emptied {T : Type 0} (s t : List T) : Type 0 where
+  pub named : t.places.ghost_name ≡ s.places.ghost_name
   pub count : t.count ≡ 0
   pub places : t.places.now ≡ s.places.now
 
 -- t holds just xs, over the places of s: those past them are as before
 pub record Refilled {T : Type 0} (s t : List T) (xs : L.List T) : Type 0 where
+  pub named : t.places.ghost_name ≡ s.places.ghost_name
   pub items : items t ≡ xs
   pub count : t.count ≡ length xs
   pub size : length t.places.now ≡ length s.places.now

@@ -1,6 +1,6 @@
 //! What can be done with a list.
 ghost use Rattle.std.specs.Prelude.{◌≡◌, ◌<◌, ◌≤◌, [], ◌∷◌, length, MatchOption, MatchResult, slice_index_or};
-ghost use Rattle.list.specs.Lists.{full_number, items, room, Emptied, Extends, Kept, Refilled};
+ghost use Rattle.list.specs.Lists.{full_number, items, room, Emptied, Puts, Kept, Refilled};
 
 use super::{Full, List};
 use refusal::Numbered;
@@ -13,7 +13,6 @@ impl Numbered for Full {
     }
 }
 
-// kept: the clauses `named` speak of a list before and after, which no field or invariant of one list can say.
 impl<'a, T: Copy> List<'a, T> {
     /// The empty list over these places, which stay as they are.
     pub fn empty(places: &'a mut [T]) -> List<'a, T>
@@ -26,8 +25,7 @@ impl<'a, T: Copy> List<'a, T> {
 
     /// Makes the list empty; the places stay as they are.
     pub fn clear(&mut self)
-        ensures emptied { Emptied self.old self.new }
-        ensures named { self.new.places.ghost_name ≡ self.old.places.ghost_name }
+        ensures { Emptied self.old self.new }
     {
         self.count = 0;
     }
@@ -62,8 +60,7 @@ impl<'a, T: Copy> List<'a, T> {
 
     /// Adds an item after the others, where a place is left; else the list and every place stay as they are.
     pub fn add(&mut self, x: T) -> Result<(), Full>
-        ensures cases { MatchResult result (λ _. (0 < room self.old) × Extends self.old self.new (x ∷ [])) (λ _. (room self.old ≡ 0) × Kept self.old self.new) }
-        ensures named { self.new.places.ghost_name ≡ self.old.places.ghost_name }
+        ensures { MatchResult result (λ _. (0 < room self.old) × Puts self.old self.new (x ∷ [])) (λ _. (room self.old ≡ 0) × Kept self.old self.new) }
     {
         if self.count < self.size() {
             self.places[self.count] = x;
@@ -76,8 +73,7 @@ impl<'a, T: Copy> List<'a, T> {
 
     /// Adds these items after the others, where places for all are left; else the list and every place stay as they are.
     pub fn extend(&mut self, xs: &[T]) -> Result<(), Full>
-        ensures cases { MatchResult result (λ _. (length xs.now ≤ room self.old) × Extends self.old self.new xs.now) (λ _. (room self.old < length xs.now) × Kept self.old self.new) }
-        ensures named { self.new.places.ghost_name ≡ self.old.places.ghost_name }
+        ensures { MatchResult result (λ _. (length xs.now ≤ room self.old) × Puts self.old self.new xs.now) (λ _. (room self.old < length xs.now) × Kept self.old self.new) }
     {
         if self.size() - self.count < xs.len() {
             return Err(Full);
@@ -90,8 +86,7 @@ impl<'a, T: Copy> List<'a, T> {
 
     /// Makes the list hold just these items, where there are places for all; else the list and every place stay as they are.
     pub fn fill(&mut self, xs: &[T]) -> Result<(), Full>
-        ensures cases { MatchResult result (λ _. Refilled self.old self.new xs.now) (λ _. (length self.old.places.now < length xs.now) × Kept self.old self.new) }
-        ensures named { self.new.places.ghost_name ≡ self.old.places.ghost_name }
+        ensures { MatchResult result (λ _. Refilled self.old self.new xs.now) (λ _. (length self.old.places.now < length xs.now) × Kept self.old self.new) }
     {
         if self.size() < xs.len() {
             return Err(Full);

@@ -14,7 +14,7 @@ use crate::header::Header;
 use crate::outs::read_state;
 use file::kind::Kind;
 use model::state::State;
-use refusal::Numbered;
+use refusal::Rule;
 
 /// Reads all states, and answers how many outcomes they have.
 pub(crate) fn read_states(

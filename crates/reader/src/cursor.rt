@@ -6,7 +6,7 @@ ghost use Rattle.reader.specs.Faults.{rule_number};
 
 use crate::fault::{FileFault, FileRule};
 use file::kind::Kind;
-use refusal::Numbered;
+use refusal::Rule;
 
 /// The bytes that are not read yet, and the place at which they begin.
 #[derive(Drop)]

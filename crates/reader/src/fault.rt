@@ -1,7 +1,7 @@
 //! Why a file is refused, and where.
 ghost use Rattle.reader.specs.Faults.{rule_number};
 
-use refusal::{Fault, Numbered};
+use refusal::{Fault, Numbered, Rule};
 use thiserror::Error;
 
 /// What a file breaks.
@@ -32,6 +32,8 @@ impl Numbered for FileRule {
         self as u8
     }
 }
+
+impl Rule for FileRule {}
 
 /// The rule that a file breaks, and the place of the command at which it is found.
 pub type FileFault = Fault<FileRule>;

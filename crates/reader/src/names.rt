@@ -12,7 +12,7 @@ use crate::fault::{FileFault, FileRule};
 use crate::header::Header;
 use file::kind::Kind;
 use legend::Legend;
-use refusal::Numbered;
+use refusal::Rule;
 
 /// Reads one NAME and adds it to the legend.
 fn read_name(cursor: &mut Cursor, legend: &mut Legend) -> Result<(), FileFault>

@@ -14,7 +14,7 @@ use crate::head::{Head, read_head};
 use crate::header::Header;
 use file::kind::Kind;
 use model::state::State;
-use refusal::Numbered;
+use refusal::Rule;
 
 /// Reads an OUT for each of a state's outcomes, of so many states.
 fn read_outs(cursor: &mut Cursor, states: u8, outcomes: &mut [u8]) -> Result<(), FileFault>

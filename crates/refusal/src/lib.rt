@@ -14,7 +14,10 @@ pub trait Numbered: Copy {
     // kept: each enum reads its own by `as`, which no generic code can write
     fn number(self) -> u8
         ensures { result ≡ number_of self };
+}
 
+/// A rule that an input can break at a place.
+pub trait Rule: Numbered {
     /// The fault that this rule is broken at a place.
     fn at(self, place: usize) -> Fault<Self>
         ensures { (result.rule ≡ self) × (result.place ≡ place) }

@@ -37,8 +37,7 @@ fn answer(job: &[u8]) -> Result<StateSet, JobFault>
 
 /// Reads a job, a model file and then question text, and makes the list hold just the listing: where the question holds, or the refusal.
 pub fn ask(job: &[u8], listing: &mut List<u8>) -> Result<(), JobFault>
-    ensures cases { MatchResult result (λ _. (X : Set) × Answers job.now X × Refilled listing.old listing.new (at_line X)) (λ f. Refuses job.now (length listing.old.places.now) f × Leaves f listing.old listing.new) }
-    ensures named { listing.new.places.ghost_name ≡ listing.old.places.ghost_name }
+    ensures { MatchResult result (λ _. (X : Set) × Answers job.now X × Refilled listing.old listing.new (at_line X)) (λ f. Refuses job.now (length listing.old.places.now) f × Leaves f listing.old listing.new) }
 {
     if listing.size() < 512 {
         return Err(JobFault::Places);

@@ -1,7 +1,7 @@
 //! Why a text is refused, and where.
 ghost use Rattle.text.specs.Faults.{rule_number};
 
-use refusal::{Fault, Numbered};
+use refusal::{Fault, Numbered, Rule};
 use thiserror::Error;
 
 /// What a text breaks.
@@ -28,6 +28,8 @@ impl Numbered for TextRule {
         self as u8
     }
 }
+
+impl Rule for TextRule {}
 
 /// The rule that a text breaks, and the place of the token at which it is found.
 pub type TextFault = Fault<TextRule>;

@@ -19,7 +19,7 @@ use crate::terms::Terms;
 use legend::Legend;
 use list::List;
 use logic::line::Line;
-use refusal::Numbered;
+use refusal::Rule;
 
 /// How long a text may be.
 const MOST_BYTES: usize = 4096;
@@ -47,8 +47,7 @@ pub fn parse(
     agents: u8,
     lines: &mut List<Line>,
 ) -> Result<(), TextFault>
-    ensures cases { MatchResult result (λ _. Parsed (vocabulary (names_of legend.now) agents) text.now lines.old lines.new) (λ f. Refuses (vocabulary (names_of legend.now) agents) text.now (length lines.old.places.now) f.rule f.place × Emptied lines.old lines.new) }
-    ensures named { lines.new.places.ghost_name ≡ lines.old.places.ghost_name }
+    ensures { MatchResult result (λ _. Parsed (vocabulary (names_of legend.now) agents) text.now lines.old lines.new) (λ f. Refuses (vocabulary (names_of legend.now) agents) text.now (length lines.old.places.now) f.rule f.place × Emptied lines.old lines.new) }
 {
     lines.clear();
     if text.len() > MOST_BYTES {

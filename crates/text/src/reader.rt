@@ -12,7 +12,7 @@ use crate::parser::Parser;
 use crate::parts::{Lead, Mark, join_line, path_line};
 use crate::token::{Token, undue};
 use logic::line::Line;
-use refusal::Numbered;
+use refusal::Rule;
 use sets::coalition::Coalition;
 
 impl<'a, 'b> Parser<'a, 'b> {

@@ -8,7 +8,7 @@ ghost use Rattle.text.specs.Vocabularies.{terms_of};
 
 use crate::fault::{TextFault, TextRule};
 use legend::Legend;
-use refusal::Numbered;
+use refusal::Rule;
 use sets::coalition::Coalition;
 
 /// The names that stand for marks, and the number of agents.

@@ -3,7 +3,7 @@ ghost use Rattle.std.specs.Prelude.{◌≡◌};
 ghost use Rattle.text.specs.declared.fault.TextRule.TheVariants as rule;
 
 use crate::fault::{TextFault, TextRule};
-use refusal::Numbered;
+use refusal::Rule;
 
 /// A token; names and agents are the part of the text that they fill.
 #[derive(Clone, Copy)]

@@ -16,7 +16,7 @@ use crate::header::Header;
 use file::kind::Kind;
 use file::write::among;
 use model::state::State;
-use refusal::Numbered;
+use refusal::Rule;
 
 /// How many joint moves so many agents have at a state, or none where the six counts break the rule.
 fn joint_of(x: State, agents: u8) -> Option<u8>

@@ -9,7 +9,7 @@ use super::Header;
 use crate::cursor::Cursor;
 use crate::fault::{FileFault, FileRule};
 use file::kind::Kind;
-use refusal::Numbered;
+use refusal::Rule;
 
 impl Header {
     /// The header of what BEGIN declares, or none where it is out of range.
