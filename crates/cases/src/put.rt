@@ -23,6 +23,19 @@ pub(crate) fn ask<G: Game>(
     }
 }
 
+/// Prints the questions with their titles, one after another.
+pub(crate) fn ask_all<G: Game>(
+    rt: &HostRuntime,
+    g: &G,
+    questions: &[(&str, &[Line])],
+) -> anyhow::Result<()> {
+    for (title, lines) in questions {
+        ask(rt, g, title, lines)?;
+    }
+    Ok(())
+}
+
+/// Prints the states of a set after `at:`.
 fn at(rt: &HostRuntime, states: StateSet) -> anyhow::Result<()> {
     print!(rt; "at:")?;
     for s in (0..64).filter(|s| states.contains(*s)) {

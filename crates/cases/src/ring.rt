@@ -1,5 +1,5 @@
 //! The ring line with 6 positions.
-use crate::put::ask;
+use crate::put::ask_all;
 use anyhow::Context;
 use logic::line::Line;
 use model::game::Game;
@@ -53,8 +53,5 @@ pub(crate) fn ring_cases(rt: &HostRuntime) -> anyhow::Result<()> {
             &[marked, unmarked, Line::Always(second, 1)],
         ),
     ];
-    for (title, lines) in questions {
-        ask(rt, &ring, title, lines)?;
-    }
-    Ok(())
+    ask_all(rt, &ring, &questions)
 }

@@ -1,5 +1,5 @@
 //! A table in which agent 0 has two choices and agent 1 has three, and every joint move leads elsewhere.
-use crate::put::ask;
+use crate::put::ask_all;
 use ability::own_choice;
 use anyhow::Context;
 use logic::line::Line;
@@ -51,6 +51,7 @@ fn own(rt: &HostRuntime, table: &Table, number: u8) -> anyhow::Result<()> {
 }
 
 /// Whether a coalition can bring about one of two marks in one step.
+// kept: a question of another length is an array of another type, and its lines point by their numbers
 fn next_of_two(who: u8, [a, b]: [u8; 2]) -> [Line; 4] {
     [
         Line::Mark(a),
@@ -90,8 +91,5 @@ pub(crate) fn table_cases(rt: &HostRuntime) -> anyhow::Result<()> {
         ("table: next 2 of mark 2 or 3", &next_of_two(2, [2, 3])),
         ("table: next 2 of mark 1 or 4", &next_of_two(2, [1, 4])),
     ];
-    for (title, lines) in questions {
-        ask(rt, &table, title, lines)?;
-    }
-    Ok(())
+    ask_all(rt, &table, &questions)
 }

@@ -220,10 +220,7 @@ fn copies(rt: HostRuntime) -> Result<(), Fail> {
     };
     assert!(rt; fault.number() == 1 && fault.place == 15);
     assert!(rt; bytes.iter().all(|byte| *byte == 9));
-    let Ok(len) = copy(&input, &mut bytes) else {
-        return Err(Fail::new("the file isn't copied"));
-    };
-    assert_eq!(rt; len, 18);
+    assert_eq!(rt; copy(&input, &mut bytes)?, 18);
     assert_eq!(rt; &bytes[..18], &input[..18]);
     assert!(rt; bytes[18] == 9 && bytes[19] == 9);
     Ok(())

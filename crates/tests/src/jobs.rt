@@ -11,9 +11,8 @@ use std::test::Fail;
 fn job(text: &[u8]) -> [u8; 40] {
     let mut job = [b' '; 40];
     job[..18].copy_from_slice(&shortest()[..18]);
-    for (place, byte) in job[18..].iter_mut().zip(text) {
-        *place = *byte;
-    }
+    let len = text.len().min(22);
+    job[18..18 + len].copy_from_slice(&text[..len]);
     job
 }
 

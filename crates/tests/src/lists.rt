@@ -28,14 +28,10 @@ fn bytes(rt: HostRuntime) -> Result<(), Fail> {
 }
 
 #[test]
-fn lines(rt: HostRuntime) -> Result<(), Fail> {
+fn lines(rt: HostRuntime) {
     let mut places = [Line::True; 2];
     let mut list = List::empty(&mut places);
     assert!(rt; list.add(Line::Mark(3)).is_ok());
     assert!(rt; list.items().len() == 1);
-    let Some(Line::Mark(m)) = list.at(0) else {
-        return Err(Fail::new("another line"));
-    };
-    assert_eq!(rt; m, 3);
-    Ok(())
+    assert_eq!(rt; list.at(0), Some(Line::Mark(3)));
 }
