@@ -24,18 +24,21 @@ PATTERNS = {
         r"&\[[1-5], ",
         r"=> \d+,$",
         r"\b(number: u8|refused: bool|counting = )",
+        r"^\s*None$",
+        r"let _ = ",
     ],
     # loops that count an index
     3: [
         r"while let Some\(.*\) = .*\(.*\b[ijs]\)",
         r"while \w+ < ",
         r"for \w+ in [\w.+ ]+\.\.=?[\w.()+ ]* \{",
+        r"\.enumerate\(\)",
     ],
     # equality, copies, conversions and printing by hand
     4: [
         r"\b\* 256 \+|/ 256\b",
-        r"input\[\w+ \+ \d\],$",
-        r"^\s*input\[from\],$",
+        r"^\s*\w+\[\w+( \+ \d)?\],$",
+        r"\bas (u8|u16|usize)\b",
         r"\[18? ?\+? ?\w+\] = \w+\[\w+\];|name\[i\] = word\[i\]",
         r"fn (same|from_word|word|new|number)\(.*(u8|u64|self)\b.*\) ->",
         r"fn (put_number|put_line|at|put)\(",
