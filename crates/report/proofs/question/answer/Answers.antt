@@ -18,7 +18,7 @@ returns-in_err-parse c =
         record { short = omega arith; model = _; names = _; text = _; reads = c.in_ok-text.ensures },
         subst (λ (k : ℕ). parsing.Refuses (vocabulary (names_of c.read.new.legend) k) c.in_ok-text.text.now 4096 f.rule f.place) c.agents.ensures
             (subst (λ (n : ℕ). parsing.Refuses (vocabulary (names_of c.read.new.legend) c.agents.result) c.in_ok-text.text.now n f.rule f.place) (ap length c.empty-lines.ensures.places)
-            c.in_err-parse.ensures.cases.0),
+            c.in_err-parse.ensures.0),
       ),
     )
 
@@ -29,7 +29,7 @@ never_err (Err y) P Q m n = absurd (n y m)
 pub unwrap-requires : goal.unwrap-requires
 unwrap-requires c =
     let l = c.read.new.legend in
-    let p = c.in_ok-parse.ensures.cases in
+    let p = c.in_ok-parse.ensures in
     let few : length c.items.result.now ≤ 4096 =
     omega (arith, ap length c.items.ensures, length-take c.parse.new.lines.count c.parse.new.lines.places.now, p.filled.size, ap length c.empty-lines.ensures.places) in
     never_err c.evaluate.result _ _ c.evaluate.ensures (λ e refused. never_refused (model_of c.read.new.table) l p.formula (parsed_accepts l c.agents.ensures p).spelled.over c.items.result.now
@@ -38,7 +38,7 @@ unwrap-requires c =
 pub returns : goal.returns
 returns c =
     let l = c.read.new.legend in
-    let p = c.in_ok-parse.ensures.cases in
+    let p = c.in_ok-parse.ensures in
     let a = parsed_accepts l c.agents.ensures p in
     record {
       asks = record { short = omega arith; model = _; names = _; text = _; reads = c.in_ok-text.ensures };
