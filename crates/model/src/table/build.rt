@@ -29,7 +29,7 @@ impl Table {
     pub fn from_states(agents: u8, states: &[State]) -> Option<Table>
         ensures { MatchOption result (Ranged (table_of (length states.now) agents states.now) → ⊥) (λ t. Ranged (table_of (length states.now) agents states.now) × Same (table_of (length states.now) agents states.now) (model_of t)) }
     {
-        if agents < 1 || agents > 6 || states.is_empty() || states.len() > 64 {
+        if !(1..=6).contains(&agents) || !(1..=64).contains(&states.len()) {
             return None;
         }
         let n = states.len() as u8;
