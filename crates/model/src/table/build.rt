@@ -38,6 +38,7 @@ impl Table {
             joint: 1,
         };
         let mut rows = [unused; 64];
+        // kept: with `rows.iter_mut().zip(states)` it stayed open what the rows hold after the loop, since nothing is known of a slice lent through an adapter
         for (s, state) in states.iter().enumerate() {
             let joint = state.moves_among(n, agents)?;
             rows[s] = Row {
