@@ -29,8 +29,8 @@ fn leading<G: Game>(at: &Pointed<G>, x: StateSet, parts: &Parts) -> StateSet
     free
 }
 
-// kept: calls take a model, a coalition and a state apart, since each may be one that the other two do not have
 /// Whether the coalition and the state exist, and the coalition has an own choice there such that every joint move agreeing with it leads into `x`.
+// kept: calls take a model, a coalition and a state apart, since each may be one that the other two do not have
 pub fn can<G: Game>(g: &G, a: Coalition, s: u8, x: StateSet) -> bool
     ensures can { T result ↔ Can (G.Game.model g.now) (who a) s (λ t. T (member x t)) }
     ensures numbering { s < (G.Game.model g.now).n → Numbering (G.Game.model g.now) (who a) s }

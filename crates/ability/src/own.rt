@@ -26,6 +26,7 @@ pub(crate) fn own_parts<G: Game>(at: &Pointed<G>, a: Coalition) -> Parts
 }
 
 /// How many own choices the coalition has at a state, or none where one of them doesn't exist.
+// kept: calls take a model, a coalition and a state apart, since each may be one that the other two do not have
 pub fn own_choices<G: Game>(g: &G, a: Coalition, s: u8) -> Option<u8>
     ensures { SomeIff result ((s < (G.Game.model g.now).n) × Exists (G.Game.model g.now) (who a)) (owns (G.Game.model g.now) (who a) s) }
 {
