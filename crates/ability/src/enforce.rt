@@ -4,7 +4,7 @@ ghost use Rattle.sets.specs.Sets.{limit, member, who};
 ghost use Rattle.model.specs.Model.{Can, Numbering, joint};
 ghost use Rattle.ability.specs.Ability.{Leads};
 
-use crate::own::own_parts;
+use crate::own::parts_at;
 use crate::parts::Parts;
 use model::game::Game;
 use model::pointed::Pointed;
@@ -35,13 +35,9 @@ pub fn can<G: Game>(g: &G, a: Coalition, s: u8, x: StateSet) -> bool
     ensures can { T result ↔ Can (G.Game.model g.now) (who a) s (λ t. T (member x t)) }
     ensures numbering { s < (G.Game.model g.now).n → Numbering (G.Game.model g.now) (who a) s }
 {
-    let Some(at) = Pointed::new(g, s) else {
+    let Some((at, parts)) = parts_at(g, a, s) else {
         return false;
     };
-    if !a.is_among(at.agents()) {
-        return false;
-    }
-    let parts = own_parts(&at, a);
     !leading(&at, x, &parts).is_empty()
 }
 
