@@ -14,7 +14,6 @@ use sets::state_set::StateSet;
 /// The own choices such that every joint move agreeing with one of them leads from a state into `x`.
 fn leading<G: Game>(at: &Pointed<G>, x: StateSet, parts: &Parts) -> StateSet
     requires moves { parts.now.width ≡ joint (G.Game.model at.now.game.now) at.now.state }
-    requires few { parts.now.count ≤ limit }
     ensures { (c : ℕ) → T (member result c) ↔ Leads (G.Game.model at.now.game.now) at.now.state (member x) parts.now (joint (G.Game.model at.now.game.now) at.now.state) c }
 {
     let mut free = StateSet::below(parts.count);

@@ -1,4 +1,5 @@
 //! What the agents of a coalition choose in each joint move.
+ghost use Rattle.std.specs.Prelude.{◌≤◌};
 
 mod extend;
 
@@ -9,4 +10,6 @@ pub(crate) struct Parts {
     pub(crate) own: [u8; 64],
     pub(crate) width: u8,
     pub(crate) count: u8,
+    ghost some: { 1 ≤ width },
+    ghost few: { count ≤ width },
 }

@@ -26,9 +26,9 @@ impl Parts {
         let end = self.width * d;
         let step = if member { self.count } else { 0 };
         repeat(&mut self.own, self.width, end, step);
+        self.width = end;
         if member {
             self.count *= d;
         }
-        self.width = end;
     }
 }

@@ -5,20 +5,10 @@ use Rattle.model.specs.Model.{Can, Exists}
 use Rattle.model.proofs.Numbers.{numbering}
 use Rattle.ability.specs.Ability.{PartsOf}
 use Rattle.ability.proofs.Leading.{can_leads}
-use Rattle.ability.proofs.Repeating.{parts_few}
 use Rattle.ability.proofs.enforce.can.Goals as goal
 
 pub returns-in_default-clause-numbering : goal.returns-in_default-clause-numbering
 returns-in_default-clause-numbering g c = numbering _ (g.met.G.Game.ranged c.args.g.now) (who c.args.a) c.args.s
-
-pub leading-requires-clause-few : goal.leading-requires-clause-few
-leading-requires-clause-few g c =
-    let at = c.in-Some.at in
-    let M = g.G.Game.model at.game.now in
-    let A = bit (who c.args.a) in
-    let told = c.in-Some.ensures in
-    let of : PartsOf A (M.d at.state) M.k c.in-Some.parts = rw (told.0, told.1) told.3 in
-    parts_few M (g.met.G.Game.ranged at.game.now) at.state at.exists A c.in-Some.parts of
 
 pub returns-clause-can : goal.returns-clause-can
 returns-clause-can g c =
