@@ -1,6 +1,6 @@
 //! Where a coalition can lead, whatever the others choose.
-ghost use Rattle.std.specs.Prelude.{◌≡◌, ℕ, ◌<◌, ◌≤◌, T, ◌↔◌};
-ghost use Rattle.sets.specs.Sets.{limit, member, who};
+ghost use Rattle.std.specs.Prelude.{◌≡◌, ℕ, ◌<◌, T, ◌↔◌};
+ghost use Rattle.sets.specs.Sets.{member, who};
 ghost use Rattle.model.specs.Model.{Can, Numbering, joint};
 ghost use Rattle.ability.specs.Ability.{Leads};
 
