@@ -2,9 +2,9 @@
 use Rattle.std.proofs.Common.{◌≡◌, ℕ, ◌+◌, ◌-◌, ◌*◌, ◌/◌, ◌%◌, ◌<◌, ◌≤◌, cond, List, get_or, sym, refl, ap, ◌∙◌, mod-eq_of_lt, add-one, arith}
 use native.Mathlib.Nat.{add-mul-div_left, add-mul-mod_self_left, div-eq_of_lt}
 use Rattle.std.proofs.lemmas.Nat.{div_below, mod_below}
-use Rattle.sets.specs.Sets.{Set, limit}
+use Rattle.sets.specs.Sets.{Set}
 use Rattle.model.specs.Model.{Model, Ranged, everyone, moves, own, choice}
-use Rattle.model.proofs.Moving.{moves_fit, moves_le, moves_pos, moves_with, own_lt}
+use Rattle.model.proofs.Moving.{moves_fit, moves_with, own_lt}
 use Rattle.model.proofs.Numbers.{own_periodic}
 use Rattle.ability.specs.Ability.{PartsOf, Extends, Small}
 use Rattle.ability.specs.declared.parts.Parts.{Parts}
@@ -28,7 +28,7 @@ parts_more A d i p q pos of more = record {
   own = λ j h.
       let w = p.width in
       let few : (b : ℕ) → b < i → 1 ≤ d b = λ b l. pos b (omega arith) in
-      let some : 0 < w = omega (arith, moves_pos d i few everyone i (omega arith), of.width) in
+      let some : 0 < w = p.some in
       let turn : j / w < d i = div_below j w (d i) some (omega (arith, more.width)) in
       let chosen : choice everyone d i j ≡ j / w = rw (← of.width) (mod-eq_of_lt turn) in
       let before : get_or p.own (j % w) 0 ≡ own A d i j = of.own (j % w) (mod_below j w some) ∙ ap (λ (m : ℕ). own A d i (j % m)) of.width ∙ own_periodic A d i j few in
@@ -43,12 +43,7 @@ parts_small M r s h A i p l of =
     let d = M.d s in
     let pos : (b : ℕ) → b < M.k → 1 ≤ d b = λ b q. (r.choices s b h q).0 in
     record {
-      some = (omega (arith, moves_pos d M.k pos everyone i (omega arith), of.width), pos i l);
+      some = pos i l;
       few = omega (arith, ap (λ (w : ℕ). w * d i) of.width, moves_with everyone d i refl, moves_fit M r s h everyone (i + 1) (omega arith));
-      counts = omega (arith, of.width, of.count, moves_le d M.k pos A i (omega arith));
       own = λ j q. omega (arith, of.own j q, of.count, own_lt d M.k pos A j i (omega arith));
     }
-
--- all agents together have few joint moves, and the coalition few own choices
-pub parts_few : (M : Model) → Ranged M → (s : ℕ) → s < M.n → (A : Set) (p : Parts) → PartsOf A (M.d s) M.k p → p.count ≤ limit
-parts_few M r s h A p of = omega (arith, of.count, moves_fit M r s h A M.k (omega arith))

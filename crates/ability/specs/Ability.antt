@@ -12,9 +12,8 @@ pub record PartsOf (A : Set) (d : ℕ → ℕ) (i : ℕ) (p : Parts) : Type 0 wh
 
 -- one more agent with d choices fits
 pub record Small (p : Parts) (d : ℕ) : Type 0 where
-  pub some : (1 ≤ p.width) × (1 ≤ d)
+  pub some : 1 ≤ d
   pub few : p.width * d ≤ most
-  pub counts : p.count ≤ p.width
   pub own : (j : ℕ) → j < p.width → slice_index p.own j < p.count
 
 -- q is p with one more agent, who has d choices and is a member or isn't

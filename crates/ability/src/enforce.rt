@@ -1,10 +1,10 @@
 //! Where a coalition can lead, whatever the others choose.
-ghost use Rattle.std.specs.Prelude.{◌≡◌, ℕ, ◌<◌, ◌≤◌, T, ◌↔◌};
-ghost use Rattle.sets.specs.Sets.{limit, member, who};
+ghost use Rattle.std.specs.Prelude.{◌≡◌, ℕ, ◌<◌, T, ◌↔◌};
+ghost use Rattle.sets.specs.Sets.{member, who};
 ghost use Rattle.model.specs.Model.{Can, Numbering, joint};
 ghost use Rattle.ability.specs.Ability.{Leads};
 
-use crate::own::own_parts;
+use crate::own::parts_at;
 use crate::parts::Parts;
 use model::game::Game;
 use model::pointed::Pointed;
@@ -14,7 +14,6 @@ use sets::state_set::StateSet;
 /// The own choices such that every joint move agreeing with one of them leads from a state into `x`.
 fn leading<G: Game>(at: &Pointed<G>, x: StateSet, parts: &Parts) -> StateSet
     requires moves { parts.now.width ≡ joint (G.Game.model at.now.game.now) at.now.state }
-    requires few { parts.now.count ≤ limit }
     ensures { (c : ℕ) → T (member result c) ↔ Leads (G.Game.model at.now.game.now) at.now.state (member x) parts.now (joint (G.Game.model at.now.game.now) at.now.state) c }
 {
     let mut free = StateSet::below(parts.count);
@@ -29,19 +28,15 @@ fn leading<G: Game>(at: &Pointed<G>, x: StateSet, parts: &Parts) -> StateSet
     free
 }
 
-// kept: calls take a model, a coalition and a state apart, since each may be one that the other two do not have
 /// Whether the coalition and the state exist, and the coalition has an own choice there such that every joint move agreeing with it leads into `x`.
+// kept: calls take a model, a coalition and a state apart, since each may be one that the other two do not have
 pub fn can<G: Game>(g: &G, a: Coalition, s: u8, x: StateSet) -> bool
     ensures can { T result ↔ Can (G.Game.model g.now) (who a) s (λ t. T (member x t)) }
     ensures numbering { s < (G.Game.model g.now).n → Numbering (G.Game.model g.now) (who a) s }
 {
-    let Some(at) = Pointed::new(g, s) else {
+    let Some((at, parts)) = parts_at(g, a, s) else {
         return false;
     };
-    if !a.is_among(at.agents()) {
-        return false;
-    }
-    let parts = own_parts(&at, a);
     !leading(&at, x, &parts).is_empty()
 }
 

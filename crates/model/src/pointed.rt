@@ -57,6 +57,7 @@ impl<'a, G: Game> Pointed<'a, G> {
     pub fn joint_moves(&self) -> u8
         ensures { result ≡ joint (G.Game.model self.now.game.now) self.now.state }
     {
+        // kept: with `map(..).product()` it stayed open that each agent has choices, that the product fits, and which number it is
         let mut joint = 1;
         for a in 0..self.agents() {
             joint *= self.choices(a).unwrap();

@@ -8,7 +8,7 @@ mod row;
 use crate::table::row::Row;
 
 /// So many states and agents, and what each state has; what stands past the states stands for nothing.
-// kept: without a heap the rows are a fixed array, and how many of them are states stands beside it.
+// kept: no heap and fixed memory: a vector of fixed capacity (arrayvec) asks for a default, which a state lacks
 #[derive(Drop)]
 pub struct Table {
     states: u8,

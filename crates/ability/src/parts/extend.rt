@@ -11,7 +11,7 @@ fn repeat(own: &mut [u8; 64], width: u8, end: u8, step: u8)
     requires fits { (j : ℕ) → j < end → slice_index own.old (j % width) + j / width * step < 256 }
     ensures { (j : ℕ) → j < end → slice_index own.new j ≡ slice_index own.old (j % width) + j / width * step }
 {
-    // kept: each place is made of the one `width` places before in the same array, which no iterator lends beside it
+    // kept: with split_at_mut and chunks_mut it is two loops, one in the other, and no plainer
     for j in width..end {
         own[j as usize] = own[(j - width) as usize] + step;
     }
@@ -24,12 +24,11 @@ impl Parts {
         ensures { Extends self.old self.new d member }
     {
         let end = self.width * d;
-        if member {
-            repeat(&mut self.own, self.width, end, self.count);
-            self.count *= d;
-        } else {
-            repeat(&mut self.own, self.width, end, 0);
-        }
+        let step = if member { self.count } else { 0 };
+        repeat(&mut self.own, self.width, end, step);
         self.width = end;
+        if member {
+            self.count *= d;
+        }
     }
 }

@@ -40,13 +40,7 @@ impl Marked for Ring {
     }
 
     fn marks(&self, s: u8) -> Option<u16> {
-        if s >= self.positions {
-            None
-        } else if s == 0 {
-            Some(1)
-        } else {
-            Some(0)
-        }
+        (s < self.positions).then_some(u16::from(s == 0))
     }
 }
 
@@ -62,11 +56,7 @@ impl Game for Ring {
     }
 
     fn choices(&self, s: u8, a: u8) -> Option<u8> {
-        if s < self.positions && a < 2 {
-            Some(2)
-        } else {
-            None
-        }
+        (s < self.positions && a < 2).then_some(2)
     }
 
     fn out(&self, s: u8, j: u8) -> Option<u8> {

@@ -10,6 +10,7 @@ impl State {
     pub fn joint_moves(self, agents: u8) -> Option<u8>
         ensures { SomeIff result (CountsRanged agents (counts_at self)) (moves everyone (counts_at self) agents) }
     {
+        // kept: with `try_fold` it stayed open which number it yields, and that none means that the counts break the ranges
         let mut joint = 1;
         for d in self.counts.get(0..agents as usize)? {
             if *d < 1 || *d > 64 / joint {

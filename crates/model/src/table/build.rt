@@ -29,7 +29,7 @@ impl Table {
     pub fn from_states(agents: u8, states: &[State]) -> Option<Table>
         ensures { MatchOption result (Ranged (table_of (length states.now) agents states.now) → ⊥) (λ t. Ranged (table_of (length states.now) agents states.now) × Same (table_of (length states.now) agents states.now) (model_of t)) }
     {
-        if agents < 1 || agents > 6 || states.is_empty() || states.len() > 64 {
+        if !(1..=6).contains(&agents) || !(1..=64).contains(&states.len()) {
             return None;
         }
         let n = states.len() as u8;
@@ -38,6 +38,7 @@ impl Table {
             joint: 1,
         };
         let mut rows = [unused; 64];
+        // kept: with `rows.iter_mut().zip(states)` it stayed open what the rows hold after the loop, since nothing is known of a slice lent through an adapter
         for (s, state) in states.iter().enumerate() {
             let joint = state.moves_among(n, agents)?;
             rows[s] = Row {

@@ -1,10 +1,22 @@
 //! The table as a model.
+ghost use Rattle.std.specs.Prelude.{◌≡◌, ◌<◌, MatchOption};
 ghost use Rattle.model.specs.Model.{marks_of};
+ghost use Rattle.model.specs.Rows.{row_at};
 ghost use Rattle.model.specs.Tables.{model_of};
 ghost use Rattle.std.proofs.Common.{rules};
 
 use super::Table;
+use super::row::Row;
 use crate::game::{Game, Marked};
+
+impl Table {
+    /// The row of a state, or none where the state doesn't exist.
+    fn row(&self, s: u8) -> Option<&Row>
+        ensures { MatchOption result (s < self.now.states → ⊥) (λ r. (s < self.now.states) × (r.now ≡ row_at self.now.rows s)) }
+    {
+        self.rows[..self.states as usize].get(s as usize)
+    }
+}
 
 impl Marked for Table {
     ghost marked = { λ t. marks_of (model_of t) };
@@ -16,11 +28,7 @@ impl Marked for Table {
     }
 
     fn marks(&self, s: u8) -> Option<u16> {
-        if s < self.states {
-            Some(self.rows[s as usize].state.marks)
-        } else {
-            None
-        }
+        self.row(s).map(|row| row.state.marks)
     }
 }
 
@@ -36,18 +44,14 @@ impl Game for Table {
     }
 
     fn choices(&self, s: u8, a: u8) -> Option<u8> {
-        if s < self.states && a < self.agents {
-            Some(self.rows[s as usize].state.counts[a as usize])
-        } else {
-            None
-        }
+        let counts = &self.row(s)?.state.counts;
+        counts[..self.agents as usize].get(a as usize).copied()
     }
 
     fn out(&self, s: u8, j: u8) -> Option<u8> {
-        if s < self.states && j < self.rows[s as usize].joint {
-            Some(self.rows[s as usize].state.outcomes[j as usize])
-        } else {
-            None
-        }
+        let row = self.row(s)?;
+        row.state.outcomes[..row.joint as usize]
+            .get(j as usize)
+            .copied()
     }
 }
