@@ -25,7 +25,7 @@ impl<'a, 'b> Parser<'a, 'b> {
         ensures added { Extends self.old.lines self.new.lines (line ∷ []) }
     {
         let at = self.lines.count();
-        let _ = self.lines.add(line);
+        self.lines.add(line).unwrap();
         at as u16
     }
 
