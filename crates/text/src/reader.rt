@@ -35,9 +35,7 @@ impl<'a, 'b> Parser<'a, 'b> {
         ensures { MatchResult result (λ at. Stated allow self.old self.new at) (λ f. Faulty allow [] self.old f) }
     {
         if allow == 0 {
-            // kept: a shared loan of `self.cursor`, which holds a reference, has no rule in the borrow checker, so it is copied.
-            let cursor = self.cursor;
-            return Err(TextRule::Depth.at(cursor.past_blanks()));
+            return Err(TextRule::Depth.at(self.cursor.past_blanks()));
         }
         let line = self.line(allow - 1)?;
         Ok(self.put(line))
