@@ -1,5 +1,5 @@
 //! The small parts of a text, and the lines that are made of them.
-ghost use Rattle.std.specs.Prelude.{◌≡◌, ℕ, suc, ◌^◌, ◌<◌, [], ◌∷◌, ◌++◌, Decides, MatchResult};
+ghost use Rattle.std.specs.Prelude.{◌≡◌, ℕ, suc, ◌^◌, ◌<◌, [], ◌∷◌, ◌++◌, Decides, Option, MatchResult};
 ghost use Rattle.sets.specs.Sets.{who};
 ghost use Rattle.logic.specs.Questions.{line_of};
 ghost use Rattle.grammar.specs.Tokens.{t_less, t_greater};
@@ -26,13 +26,6 @@ pub(crate) enum Mark {
     Greater,
     Until,
     End,
-}
-
-/// What begins a path: `X` or `G` and one state, or `(` and two states with `U` between them.
-#[derive(Clone, Copy)]
-pub(crate) enum Lead {
-    Onward(Ahead),
-    Until,
 }
 
 /// The line of two joined states.
@@ -96,16 +89,16 @@ impl<'a> Cursor<'a> {
         }
     }
 
-    /// Reads what begins a path.
-    pub(crate) fn lead(&mut self) -> Result<Lead, TextFault>
+    /// Reads what begins a path: `X` or `G`, before one state, or `(`, which none stands for, before two with `U` between them.
+    pub(crate) fn lead(&mut self) -> Result<Option<Ahead>, TextFault>
         ensures onward { Onward self.old self.new }
-        ensures cases { MatchResult result (λ l. Takes self.old (lead_tok l ∷ []) self.new) (Lacks self.old (λ t. (l : Lead) × (t ≡ lead_tok l))) }
+        ensures cases { MatchResult result (λ l. Takes self.old (lead_tok l ∷ []) self.new) (Lacks self.old (λ t. (l : Option Ahead) × (t ≡ lead_tok l))) }
     {
         let read = self.read()?;
         match read.token {
-            Token::Next => Ok(Lead::Onward(Ahead::Next)),
-            Token::Always => Ok(Lead::Onward(Ahead::Always)),
-            Token::Open => Ok(Lead::Until),
+            Token::Next => Ok(Some(Ahead::Next)),
+            Token::Always => Ok(Some(Ahead::Always)),
+            Token::Open => Ok(None),
             _ => Err(undue(read.place)),
         }
     }

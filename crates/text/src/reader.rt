@@ -9,7 +9,7 @@ ghost use Rattle.text.specs.Readings.{Stated, Parted, Faulty};
 
 use crate::fault::{TextFault, TextRule};
 use crate::parser::Parser;
-use crate::parts::{Lead, Mark, join_line, path_line};
+use crate::parts::{Mark, join_line, path_line};
 use crate::token::{Token, undue};
 use logic::line::Line;
 use refusal::Numbered;
@@ -85,8 +85,8 @@ impl<'a, 'b> Parser<'a, 'b> {
         ensures { MatchResult result (λ line. Parted (suc allow) (group (who agents) []) self.old self.new line) (λ f. Faulty (suc allow) (group (who agents) []) self.old f) }
     {
         match self.cursor.lead()? {
-            Lead::Onward(ahead) => Ok(path_line(ahead, agents, self.state(allow)?)),
-            Lead::Until => self.until(agents, allow),
+            Some(ahead) => Ok(path_line(ahead, agents, self.state(allow)?)),
+            None => self.until(agents, allow),
         }
     }
 
