@@ -1,5 +1,5 @@
 //! The small parts of a text, and the lines that are made of them.
-ghost use Rattle.std.specs.Prelude.{◌≡◌, ℕ, suc, ◌^◌, ◌<◌, [], ◌∷◌, ◌++◌, Decides, Option, Some, MatchOption, MatchResult};
+ghost use Rattle.std.specs.Prelude.{◌≡◌, ℕ, suc, ◌^◌, ◌<◌, [], ◌∷◌, ◌++◌, Option, Some, MatchOption, MatchResult};
 ghost use Rattle.sets.specs.Sets.{who};
 ghost use Rattle.logic.specs.Questions.{line_of};
 ghost use Rattle.grammar.specs.Tokens.{t_less, t_greater};
@@ -48,20 +48,6 @@ pub(crate) fn path_line(ahead: Ahead, members: Coalition, a: u16) -> Line
     }
 }
 
-// kept: a derived `==` compares the bytes that tokens borrow, and the grammar tells agents by their number.
-/// Whether a token is this one.
-fn is_mark(token: Token, mark: Mark) -> bool
-    ensures { Decides result (shown token.entry ≡ mark_tok mark) }
-{
-    matches!(
-        (mark, token),
-        (Mark::Close, Token::Close)
-            | (Mark::Greater, Token::Greater)
-            | (Mark::Until, Token::Until)
-            | (Mark::End, Token::End)
-    )
-}
-
 /// How a token joins two states, if it joins any.
 fn joint(token: Token) -> Option<Joint>
     ensures { MatchOption result ((j : Joint) → shown token.entry ≡ joint_tok j → ⊥) (λ j. shown token.entry ≡ joint_tok j) }
@@ -104,7 +90,16 @@ impl<'a> Cursor<'a> {
         self.wanted(
             |token|
                 ensures { MatchOption result (shown token.entry ≡ mark_tok mark → ⊥) (λ x. shown token.entry ≡ mark_tok mark) }
-            { is_mark(token, mark).then_some(()) },
+            {
+                matches!(
+                    (mark, token),
+                    (Mark::Close, Token::Close)
+                        | (Mark::Greater, Token::Greater)
+                        | (Mark::Until, Token::Until)
+                        | (Mark::End, Token::End)
+                )
+                .then_some(())
+            },
         )
     }
 
