@@ -20,6 +20,7 @@ use logic::line::Line;
 use sets::coalition::Coalition;
 
 /// A token that can be due alone.
+// kept: with tokens in place of marks, `due` would ask for one that borrows no bytes, since a derived `==` compares those, and the grammar tells agents by their number
 #[derive(Clone, Copy)]
 pub(crate) enum Mark {
     Close,
