@@ -1,6 +1,7 @@
 -- How each way out of a reader ends.
-use Rattle.std.proofs.Common.{◌≡◌, ℕ, ◌<◌, List, [], ◌∷◌, ◌++◌, length, get_or, sym, refl, subst, inl, inr, arith}
+use Rattle.std.proofs.Common.{◌≡◌, ℕ, ◌<◌, List, [], ◌∷◌, ◌++◌, length, get_or, Option, None, Some, MatchResult, sym, refl, subst, inl, inr, arith}
 use Rattle.std.proofs.lemmas.Bool.{cases_lt}
+use Rattle.std.specs.Option.{ok_or}
 use Rattle.legend.specs.Names.{LetterOrDigit}
 use Rattle.logic.specs.Logic.{Formula}
 use Rattle.grammar.specs.Tokens.{Tok, t_end, Digit, Run, Spells, TokAt, Lexes}
@@ -8,10 +9,12 @@ use Rattle.grammar.specs.Grammar.{Vocabulary, Due}
 use Rattle.grammar.specs.Parts.{Wrong, Miss}
 use Rattle.grammar.proofs.Dues.{Only, missed}
 use Rattle.text.specs.declared.token.Token.{Token}
-use Rattle.text.specs.Shown.{shown, Proper}
+use Rattle.text.specs.Shown.{shown, Proper, Passing}
 use Rattle.text.specs.declared.fault.TextRule.{TextRule}
 use Rattle.text.specs.declared.fault.TextRule.TheVariants as rule
 use Rattle.text.specs.Faults.{TextFault, rule_number}
+use Rattle.text.specs.declared.cursor.Cursor.{Cursor}
+use Rattle.text.specs.Cursors.{Takes, Lacks}
 
 module _ {V : Vocabulary} {W : Formula → List Tok} {text : List ℕ} {pre : List Tok} {from : ℕ} where
   -- a fault with this rule at this place
@@ -59,3 +62,14 @@ lex_some l real = omega (arith, l.3, tok_some l.2 real)
 -- another token than one that is wanted, at the place of a fault
 pub another : {text : List ℕ} {from place p q : ℕ} {t : Tok} {Wanted : Tok → Type 0} → p ≡ place → TokAt text from place q t → (Wanted t → ⊥) → Miss text from Wanted p
 another {text} {from} {Wanted = Wanted} e at h = subst (λ (n : ℕ). Miss text from Wanted n) (sym e) (Miss.other _ _ at h)
+
+-- what a test makes of a token that was read, or a fault
+pub made_or_fault : {T : Type 0} (c d : Cursor) {place : ℕ} (Test : Token → Option T → Type 0) (t : Token) (o : Option T) (f : TextFault) → Test t o → TokAt c.text.now c.at place d.at (shown t) → f.rule ≡ rule.Token → f.place ≡ place →
+    MatchResult (ok_or o f) (λ x. (u : Token) × Test u (Some x) × Takes c (shown u ∷ []) d) (λ e. Lacks c (Passing Test) e)
+made_or_fault c d Test t None f h at a b = (a, another b at (λ w. w t refl h))
+made_or_fault c d Test t (Some x) f h at a b = (t, h, lex_one at)
+
+-- what fails for more tokens fails for fewer
+pub miss_less : {text : List ℕ} {from place : ℕ} {P Q : Tok → Type 0} → ((k : Tok) → Q k → P k) → Miss text from P place → Miss text from Q place
+miss_less h (Miss.strange s) = Miss.strange s
+miss_less h (Miss.other q t at none) = Miss.other q t at (λ w. none (h t w))

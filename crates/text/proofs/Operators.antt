@@ -1,5 +1,5 @@
 -- What operators do to vocabularies and lines, and small steps of the readers.
-use Rattle.std.proofs.Common.{◌≡◌, ℕ, ◌^◌, ◌<◌, [], ◌∷◌, refl, subst}
+use Rattle.std.proofs.Common.{◌≡◌, ℕ, ◌^◌, ◌<◌, [], ◌∷◌, Option, None, Some, refl, subst}
 use mathlib.Core.List as L
 use Rattle.logic.specs.Logic.{Formula}
 use Rattle.logic.specs.Logic as logic
@@ -14,8 +14,6 @@ use Rattle.grammar.specs.Grammar.{Vocabulary, Over, joined_by, ahead_by, ahead_t
 use Rattle.grammar.specs.Parts.{Miss}
 use Rattle.grammar.proofs.Dues.{Leads}
 use Rattle.text.specs.Faults.{TextFault}
-use Rattle.text.specs.declared.parts.Lead.{Lead}
-use Rattle.text.specs.declared.parts.Lead.TheVariants as lead
 use Rattle.text.specs.declared.parser.Parser.{Parser}
 use Rattle.text.specs.Readings.{lead_tok, joint_line, ahead_line, Stated, Parted, Faulty}
 
@@ -36,17 +34,17 @@ flat_ahead ahead.Next A f q = refl
 flat_ahead ahead.Always A f q = refl
 
 -- what begins no path
-pub no_lead : {text : L.List ℕ} {from place : ℕ} → Miss text from (λ t. (l : Lead) × (t ≡ lead_tok l)) place → Miss text from Leads place
+pub no_lead : {text : L.List ℕ} {from place : ℕ} → Miss text from (λ t. (l : Option Ahead) × (t ≡ lead_tok l)) place → Miss text from Leads place
 no_lead (Miss.strange s) = Miss.strange s
 no_lead (Miss.other q t at h) = Miss.other q t at (λ l. h (led l))
   where
-    led : Leads t → (l : Lead) × (t ≡ lead_tok l)
-    led (Leads.onward h e) = (lead.Onward h, e)
-    led (Leads.opens e) = (lead.Until, e)
+    led : Leads t → (l : Option Ahead) × (t ≡ lead_tok l)
+    led (Leads.onward h e) = (Some h, e)
+    led (Leads.opens e) = (None, e)
 
 -- what begins a path, when it is known
-pub lead_is : {text : L.List ℕ} {from to : ℕ} {x y : Lead} → x ≡ y → Lexes text from (lead_tok x ∷ []) to → Lexes text from (lead_tok y ∷ []) to
-lead_is {text} {from} {to} e l = subst (λ (z : Lead). Lexes text from (lead_tok z ∷ []) to) e l
+pub lead_is : {text : L.List ℕ} {from to : ℕ} {x y : Option Ahead} → x ≡ y → Lexes text from (lead_tok x ∷ []) to → Lexes text from (lead_tok y ∷ []) to
+lead_is {text} {from} {to} e l = subst (λ (z : Option Ahead). Lexes text from (lead_tok z ∷ []) to) e l
 
 -- one level more
 pub stated_at : {d e : ℕ} {p q : Parser} {at : ℕ} → d ≡ e → Stated d p q at → Stated e p q at

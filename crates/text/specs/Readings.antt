@@ -1,5 +1,5 @@
 -- What reading a state into lines comes to.
-use Rattle.std.specs.Prelude.{◌≡◌, ℕ, ◌+◌, ◌≤◌, ◌∷◌, length}
+use Rattle.std.specs.Prelude.{◌≡◌, ℕ, ◌+◌, ◌≤◌, ◌∷◌, length, Option, None, Some}
 use mathlib.Core.List as L
 use Rattle.list.specs.Lists.{items}
 use Rattle.logic.specs.Logic.{Formula}
@@ -17,8 +17,6 @@ use Rattle.grammar.specs.Parts.{Ends, Wrong}
 use Rattle.text.specs.declared.parser.Parser.{Parser}
 use Rattle.text.specs.Faults.{TextFault, rule_number}
 use Rattle.text.specs.Vocabularies.{terms_of}
-use Rattle.text.specs.declared.parts.Lead.{Lead}
-use Rattle.text.specs.declared.parts.Lead.TheVariants as lead
 use Rattle.text.specs.declared.parts.Mark.{Mark}
 use Rattle.text.specs.declared.parts.Mark.TheVariants as mark
 
@@ -29,10 +27,10 @@ mark_tok mark.Greater = t_greater
 mark_tok mark.Until = t_until
 mark_tok mark.End = t_end
 
--- the token that begins a path
-abbrev pub lead_tok : Lead → Tok
-lead_tok (lead.Onward h) = ahead_tok h
-lead_tok lead.Until = t_open
+-- the token that begins a path: of one state, or of two, with U between them
+abbrev pub lead_tok : Option Ahead → Tok
+lead_tok (Some h) = ahead_tok h
+lead_tok None = t_open
 
 -- the line of an operator
 abbrev pub joint_line : Joint → ℕ → ℕ → logic.Line

@@ -1,5 +1,5 @@
 -- A token of the code as the grammar sees it.
-use Rattle.std.specs.Prelude.{ℕ, ◌<◌, ◌≤◌, length, slice_index}
+use Rattle.std.specs.Prelude.{◌≡◌, ℕ, ◌<◌, ◌≤◌, Option, None, length, slice_index}
 use Rattle.legend.specs.Names.{LetterOrDigit}
 use Rattle.grammar.specs.Tokens.{
   Tok,
@@ -55,3 +55,7 @@ Proper token.Next = Unit {0}
 Proper token.Always = Unit {0}
 Proper token.Until = Unit {0}
 Proper token.End = Unit {0}
+
+-- no token that is seen so fails the test
+abbrev pub Passing : {T : Type 0} → (Token → Option T → Type 0) → Tok → Type 0
+Passing Test k = (t : Token) → shown t ≡ k → Test t None → ⊥

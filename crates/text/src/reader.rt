@@ -9,7 +9,7 @@ ghost use Rattle.text.specs.Readings.{Stated, Parted, Faulty};
 
 use crate::fault::{TextFault, TextRule};
 use crate::parser::Parser;
-use crate::parts::{Lead, Mark, join_line, path_line};
+use crate::parts::{Mark, join_line, path_line};
 use crate::token::{Token, undue};
 use logic::line::Line;
 use refusal::Rule;
@@ -25,7 +25,7 @@ impl<'a, 'b> Parser<'a, 'b> {
         ensures added { Extends self.old.lines self.new.lines (line ∷ []) }
     {
         let at = self.lines.count();
-        let _ = self.lines.add(line);
+        self.lines.add(line).unwrap();
         at as u16
     }
 
@@ -35,9 +35,7 @@ impl<'a, 'b> Parser<'a, 'b> {
         ensures { MatchResult result (λ at. Stated allow self.old self.new at) (λ f. Faulty allow [] self.old f) }
     {
         if allow == 0 {
-            // kept: a shared loan of `self.cursor`, which holds a reference, has no rule in the borrow checker, so it is copied.
-            let cursor = self.cursor;
-            return Err(TextRule::Depth.at(cursor.past_blanks()));
+            return Err(TextRule::Depth.at(self.cursor.past_blanks()));
         }
         let line = self.line(allow - 1)?;
         Ok(self.put(line))
@@ -87,8 +85,8 @@ impl<'a, 'b> Parser<'a, 'b> {
         ensures { MatchResult result (λ line. Parted (suc allow) (group (who agents) []) self.old self.new line) (λ f. Faulty (suc allow) (group (who agents) []) self.old f) }
     {
         match self.cursor.lead()? {
-            Lead::Onward(ahead) => Ok(path_line(ahead, agents, self.state(allow)?)),
-            Lead::Until => self.until(agents, allow),
+            Some(ahead) => Ok(path_line(ahead, agents, self.state(allow)?)),
+            None => self.until(agents, allow),
         }
     }
 

@@ -31,7 +31,7 @@ pub(crate) struct Read<'a> {
     pub(crate) place: usize,
 }
 
-/// A token that is not due, or none.
+/// The fault that the token at this place is not due, or is none.
 pub(crate) fn undue(place: usize) -> TextFault
     ensures rule { result.rule ≡ rule.Token }
     ensures place { result.place ≡ place }

@@ -1,6 +1,12 @@
-use Rattle.std.proofs.lemmas.Bool.Decides.{not_from_Decides}
-use Rattle.text.proofs.Exits.{another}
+use Rattle.std.proofs.Common.{[], ◌∷◌, subst, ◌∙◌}
+use Rattle.std.proofs.lemmas.Result.{MatchResult-weaker}
+use Rattle.grammar.specs.Tokens.{Tok}
+use Rattle.text.specs.Cursors.{Takes}
+use Rattle.text.proofs.Exits.{miss_less}
 use Rattle.text.proofs.cursor.Cursor.due.Goals as goal
 
-pub returns-else-is_mark-clause-cases : goal.returns-else-is_mark-clause-cases
-returns-else-is_mark-clause-cases c = (c.undue.ensures.rule, another c.undue.ensures.place c.in_ok-read.ensures.cases.0 (not_from_Decides _ c.is_mark.ensures c.if-is_mark.false))
+pub returns-clause-cases : goal.returns-clause-cases
+returns-clause-cases c =
+    MatchResult-weaker c.wanted.result c.wanted.ensures.cases
+    (λ x w. subst (λ (k : Tok). Takes c.args.self.now (k ∷ []) c.wanted.new.self) w.1.1 w.2)
+    (λ f e. (e.0, miss_less (λ k w t same none. none.1 (same ∙ w)) e.1))

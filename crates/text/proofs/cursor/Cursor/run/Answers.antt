@@ -7,8 +7,8 @@ use Rattle.text.proofs.cursor.Cursor.run.Goals as goal
 
 pub returns : goal.returns
 returns g c =
-    let rest = drop c.args.self.now.at c.args.self.now.text.now in
+    let rest = drop c.args.self.at c.args.self.text.now in
     let first = IsFirst-from_position _ _ c.position.result (λ b. goal.F-post g c.args.is_in b false) (λ b. goal.F-post g c.args.is_in b true) c.position.ensures.ran
-    (YieldsList-from_slice rest (c.iter.ensures.rest ∙ rest_of c.args.self.now.text.now c.args.self.now.at)) (λ x q k. search (rules, of_calls)) (λ x q k. search (rules, of_calls)) in
-    let done = passes_first c.args.self.now.text.now c.args.self.now.at c.args.self.now.within (λ b r. goal.F-post g c.args.is_in b r) c.position.result first in
-    subst (λ n. Passes (λ b r. goal.F-post g c.args.is_in b r) c.args.self.now.text.now c.args.self.now.at (c.args.self.now.at + n)) (sym (c.unwrap_or.ensures ∙ ap (λ l. unwrap_or c.position.result (length l)) (rest_of c.args.self.now.text.now c.args.self.now.at))) done
+    (YieldsList-from_slice rest (c.iter.ensures.rest ∙ rest_of c.args.self.text.now c.args.self.at)) (λ x q k. search (rules, of_calls)) (λ x q k. search (rules, of_calls)) in
+    let done = passes_first c.args.self.text.now c.args.self.at c.args.self.within (λ b r. goal.F-post g c.args.is_in b r) c.position.result first in
+    subst (λ n. Passes (λ b r. goal.F-post g c.args.is_in b r) c.args.self.text.now c.args.self.at (c.args.self.at + n)) (sym (c.unwrap_or.ensures ∙ ap (λ l. unwrap_or c.position.result (length l)) (rest_of c.args.self.text.now c.args.self.at))) done

@@ -175,34 +175,34 @@ path-returns-in_err-ahead t c =
     at_exit _ _ c.from_residual.result _ c.from_residual.ensures.1
     (stray _ (group A []) [] (append-nil (group A [])) e.0 (reads_none p) t_next (due_path V c.args.allow A c.requires) (only_path V c.args.allow A) (no_lead e.1))
 
-pub path-returns-in_err-state-in-Onward : goal.path-returns-in_err-state-in-Onward
-path-returns-in_err-state-in-Onward t c =
+pub path-returns-in_err-state-in-Some : goal.path-returns-in_err-state-in-Some
+path-returns-in_err-state-in-Some t c =
     let p = c.args.self.now in
     let A = who c.args.agents in
-    let h = c.in-Onward.ahead in
+    let h = c.in-Some.ahead in
     let first = c.in_ok-ahead.ensures in
-    let l = lead_is c.in-Onward.is first.cases in
-    at_exit _ _ c.from_residual-in_err-state-in-Onward.result _ c.from_residual-in_err-state-in-Onward.ensures.1
-    (wrong_part (group A []) (ahead_tok h ∷ []) (group_more A [] (ahead_tok h ∷ [])) c.in_err-state-in-Onward.ensures (moves first.onward refl refl l).reads (frame_ahead (terms_of p.terms) c.args.allow A c.requires h))
+    let l = lead_is c.in-Some.is first.cases in
+    at_exit _ _ c.from_residual-in_err-state-in-Some.result _ c.from_residual-in_err-state-in-Some.ensures.1
+    (wrong_part (group A []) (ahead_tok h ∷ []) (group_more A [] (ahead_tok h ∷ [])) c.in_err-state-in-Some.ensures (moves first.onward refl refl l).reads (frame_ahead (terms_of p.terms) c.args.allow A c.requires h))
 
-pub path-returns-in_ok-state-in-Onward : goal.path-returns-in_ok-state-in-Onward
-path-returns-in_ok-state-in-Onward t c =
+pub path-returns-in_ok-state-in-Some : goal.path-returns-in_ok-state-in-Some
+path-returns-in_ok-state-in-Some t c =
     let p = c.args.self.now in
     let V = terms_of p.terms in
     let A = who c.args.agents in
-    let h = c.in-Onward.ahead in
+    let h = c.in-Some.ahead in
     let first = c.in_ok-ahead.ensures in
-    let l = lead_is c.in-Onward.is first.cases in
+    let l = lead_is c.in-Some.is first.cases in
     one (group A []) (ahead_tok h) (ahead_by h A) (ahead_line h A) (ahead_real h) (over_ahead V h A c.requires) (λ f. print_ahead V.word c.args.allow h A f ∙ sym (group_more A [] _)) (flat_ahead h A)
-    c.in_ok-state-in-Onward.ensures (moves first.onward refl refl l) c.path_line.ensures
+    c.in_ok-state-in-Some.ensures (moves first.onward refl refl l) c.path_line.ensures
 
-pub path-returns-in-Until : goal.path-returns-in-Until
-path-returns-in-Until t c =
+pub path-returns-in-None : goal.path-returns-in-None
+path-returns-in-None t c =
     let p = c.args.self.now in
     let A = who c.args.agents in
     let first = c.in_ok-ahead.ensures in
     let same = group_more A [] (t_open ∷ []) in
-    let l = lead_is c.in-Until.is first.cases in
+    let l = lead_is c.in-None.is first.cases in
     MatchResult-weaker c.until.result c.until.ensures
     (λ made h. parted_before (group A []) (t_open ∷ []) (parted_told (sym same) h) (moves first.onward refl refl l))
     (λ f w. wrong_after (group A []) (t_open ∷ []) (faulty_told (sym same) w) (moves first.onward refl refl l).reads)
