@@ -43,10 +43,12 @@ pub(crate) fn judge(agents: u8, lines: &[Line], room: usize) -> Result<(), Quest
     if room < lines.len() {
         return Err(QuestionFault::Sets);
     }
-    for (i, line) in lines.iter().enumerate() {
-        if !keeps_rule(agents, i, *line) {
-            return Err(QuestionFault::Line(i as u16));
-        }
+    let broken = lines
+        .iter()
+        .enumerate()
+        .position(|(i, line)| !keeps_rule(agents, i, *line));
+    match broken {
+        None => Ok(()),
+        Some(i) => Err(QuestionFault::Line(i as u16)),
     }
-    Ok(())
 }
