@@ -2,8 +2,8 @@
 ghost use Rattle.std.specs.Prelude.{◌≡◌, ℕ, ◌<◌, ◌≤◌, List, [], ◌∷◌, ◌++◌, length, MatchResult, OnOk, slice_index_or};
 ghost use Rattle.model.specs.Kinds.{nowhere};
 ghost use Rattle.file.specs.File.{Command, finish, upto};
-ghost use Rattle.file.specs.Reading.{Refused, Seen, after};
-ghost use Rattle.reader.specs.Faults.{rule_number};
+ghost use Rattle.file.specs.Reading.{Seen, after};
+ghost use Rattle.reader.specs.Faults.{Refuses};
 ghost use Rattle.reader.specs.Bodies.{row_commands};
 ghost use Rattle.reader.specs.Heads.{Kept, Naming, body_seen};
 ghost use Rattle.reader.specs.Sofar.{Reached};
@@ -24,7 +24,7 @@ pub(crate) fn read_states(
 ) -> Result<u16, FileFault>
     requires { length states.old ≡ header.states }
     ensures kept { OnOk result ((t : ℕ) → t < header.states → Kept header (slice_index_or states.new t nowhere)) }
-    ensures reads { (input : List ℕ) (cs : List Command) (names : List (List ℕ)) → length names ≡ header.marks → Reached input cursor.old cs (body_seen header names 0 0) → MatchResult result (λ total. Reached input cursor.new (cs ++ upto (row_commands header.agents states.new) header.states) (body_seen header names header.states total)) (λ f. Refused input (rule_number f.rule) f.place) }
+    ensures reads { (input : List ℕ) (cs : List Command) (names : List (List ℕ)) → length names ≡ header.marks → Reached input cursor.old cs (body_seen header names 0 0) → MatchResult result (λ total. Reached input cursor.new (cs ++ upto (row_commands header.agents states.new) header.states) (body_seen header names header.states total)) (Refuses input) }
 {
     let mut total = 0;
     for state in states.iter_mut() {
@@ -37,7 +37,7 @@ pub(crate) fn read_states(
 
 /// Reads END, with the number of all outcomes.
 pub(crate) fn read_end(cursor: &mut Cursor, total: u16) -> Result<(), FileFault>
-    ensures { (input : List ℕ) (cs : List Command) (s : Seen) → Reached input cursor.old cs s → Naming s → s.left ≡ 0 → s.n ≤ s.states → s.outs ≡ total → MatchResult result (λ _. Reached input cursor.new (cs ++ finish total ∷ []) (after s (finish total))) (λ f. Refused input (rule_number f.rule) f.place) }
+    ensures { (input : List ℕ) (cs : List Command) (s : Seen) → Reached input cursor.old cs s → Naming s → s.left ≡ 0 → s.n ≤ s.states → s.outs ≡ total → MatchResult result (λ _. Reached input cursor.new (cs ++ finish total ∷ []) (after s (finish total))) (Refuses input) }
 {
     let place = cursor.place;
     let told = u16::from_be_bytes(cursor.take(Kind::End)?);

@@ -4,8 +4,8 @@ ghost use Rattle.std.specs.Option.{SomeIff};
 ghost use Rattle.model.specs.Model.{everyone, moves};
 ghost use Rattle.model.specs.Kinds.{counts_at};
 ghost use Rattle.file.specs.File.{Command, state, encode};
-ghost use Rattle.file.specs.Reading.{Counts, Refused, Seen, after, due};
-ghost use Rattle.reader.specs.Faults.{rule_number};
+ghost use Rattle.file.specs.Reading.{Counts, Seen, after, due};
+ghost use Rattle.reader.specs.Faults.{Refuses};
 ghost use Rattle.reader.specs.Heads.{HeadOf};
 ghost use Rattle.reader.specs.Sofar.{Reached};
 
@@ -42,7 +42,7 @@ fn state_of(operands: [u8; 8]) -> State
 /// Reads one STATE.
 pub(crate) fn read_head(cursor: &mut Cursor, header: Header) -> Result<Head, FileFault>
     ensures head { IfOk result (HeadOf header) }
-    ensures reads { (input : List ℕ) (cs : List Command) (s : Seen) → Reached input cursor.old cs s → s.ended ≡ false → due s ≡ 3 → s.k ≡ header.agents → s.m ≡ header.marks → MatchResult result (λ x. Reached input cursor.new (cs ++ state x.state.marks x.state.counts ∷ []) (after s (state x.state.marks x.state.counts))) (λ f. Refused input (rule_number f.rule) f.place) }
+    ensures reads { (input : List ℕ) (cs : List Command) (s : Seen) → Reached input cursor.old cs s → s.ended ≡ false → due s ≡ 3 → s.k ≡ header.agents → s.m ≡ header.marks → MatchResult result (λ x. Reached input cursor.new (cs ++ state x.state.marks x.state.counts ∷ []) (after s (state x.state.marks x.state.counts))) (Refuses input) }
 {
     let place = cursor.place;
     let state = state_of(cursor.take(Kind::State)?);
