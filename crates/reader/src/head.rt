@@ -3,7 +3,6 @@
 mod read;
 
 use model::state::State;
-pub(crate) use read::read_head;
 
 /// A state that was read, and how many joint moves it has.
 // kept: `Row` of `model` has the same fields, but is private there
