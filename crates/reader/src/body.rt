@@ -38,16 +38,17 @@ impl<'a> Body<'a> {
         }
         Ok(total)
     }
-}
 
-/// Reads END, with the number of all outcomes.
-pub(crate) fn read_end(cursor: &mut Cursor, total: u16) -> Result<(), FileFault>
-    ensures { (input : List ℕ) (cs : List Command) (s : Seen) → Reached input cursor.old cs s → Naming s → s.left ≡ 0 → s.n ≤ s.states → s.outs ≡ total → MatchResult result (λ _. Reached input cursor.new (cs ++ finish total ∷ []) (after s (finish total))) (Refuses input) }
-{
-    let place = cursor.place;
-    let told = u16::from_be_bytes(cursor.take(Kind::End)?);
-    if told != total {
-        return Err(FileRule::End.at(place));
+    /// Reads END, with the number of all outcomes.
+    pub(crate) fn read_end(&mut self, total: u16) -> Result<(), FileFault>
+        ensures header { self.new.header ≡ self.old.header }
+        ensures reads { (input : List ℕ) (cs : List Command) (s : Seen) → Reached input self.old.cursor cs s → Naming s → s.left ≡ 0 → s.n ≤ s.states → s.outs ≡ total → MatchResult result (λ _. Reached input self.new.cursor (cs ++ finish total ∷ []) (after s (finish total))) (Refuses input) }
+    {
+        let place = self.cursor.place;
+        let told = u16::from_be_bytes(self.cursor.take(Kind::End)?);
+        if told != total {
+            return Err(FileRule::End.at(place));
+        }
+        Ok(())
     }
-    Ok(())
 }

@@ -5,7 +5,7 @@ ghost use Rattle.legend.specs.Legends.{names_of};
 ghost use Rattle.reader.specs.Faults.{rule_number};
 ghost use Rattle.reader.specs.Whole.{Accepts, Rejects};
 
-use crate::body::{Body, read_end};
+use crate::body::Body;
 use crate::cursor::Cursor;
 use crate::fault::FileFault;
 use crate::header::read_begin;
@@ -37,7 +37,7 @@ fn read_whole(input: &[u8]) -> Result<Whole<'_>, FileFault>
     let mut states = [unused; 64];
     let states = &mut states[..header.states as usize];
     let total = body.read_states(states)?;
-    read_end(&mut body.cursor, total)?;
+    body.read_end(total)?;
     Ok(Whole {
         table: Table::from_states(header.agents, states).unwrap(),
         legend,

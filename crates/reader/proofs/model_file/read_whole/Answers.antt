@@ -61,7 +61,7 @@ returns-in_err-read_end c =
     let same = c.in_ok-legend.ensures.header in
     let b = states_read _ _ same (names_of c.in_ok-legend.legend) _ _ _ (c.in_ok-total.ensures.reads input) l in
     let p = err_from_is_err_and c.from_residual-in_err-read_end.result c.from_residual-in_err-read_end.ensures.1 in
-    rw (p.1, p.2) (rejects (c.in_err-read_end.ensures input _ _ b (body_naming header (names_of c.in_ok-legend.legend) _ _ l.1) refl (omega arith) refl))
+    rw (p.1, p.2) (rejects (c.in_err-read_end.ensures.reads input _ _ b (body_naming header (names_of c.in_ok-legend.legend) _ _ l.1) refl (omega arith) refl))
 
 pub unwrap-requires : goal.unwrap-requires
 unwrap-requires c =
@@ -84,7 +84,7 @@ returns c =
     let l = c.in_ok-legend.ensures.reads input h in
     let same = c.in_ok-legend.ensures.header in
     let b = states_read _ _ same (names_of c.in_ok-legend.legend) _ _ _ (c.in_ok-total.ensures.reads input) l in
-    let e = c.in_ok-read_end.ensures input _ _ b (body_naming header names _ _ l.1) refl (omega arith) refl in
+    let e = c.in_ok-read_end.ensures.reads input _ _ b (body_naming header names _ _ l.1) refl (omega arith) refl in
     let long : length xs ≡ header.states = c.read_states.auto.states ∙ length-take-le _ _ (omega (arith, header.states_ranged.1)) in
     let made = MatchOption-at_some _ _ c.unwrap.result c.unwrap.ensures c.from_states.ensures in
     accepts (whole_file header names xs l.2 l.1 (subst (λ (g : Header). (t : ℕ) → t < g.states → Kept g (get_or xs t nowhere)) same c.in_ok-total.ensures.kept) b e)
