@@ -26,7 +26,7 @@ pub(crate) struct Contents<'a, G: Game> {
 fn all_outcomes<G: Game>(game: &G) -> u16
     ensures { result ≡ outcomes (G.Game.model game.now) (G.Game.model game.now).n }
 {
-    // kept: a chain with `sum` leaves its bound and its value open, and this loop needs one invariant and no answer
+    // kept: with `sum` the bound that it asks for stayed open
     let mut total = 0;
     for s in 0..game.states() {
         total += u16::from(Pointed::new(game, s).unwrap().joint_moves());

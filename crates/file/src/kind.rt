@@ -30,7 +30,7 @@ impl Kind {
     pub fn operands(self) -> usize
         ensures { result ≡ size (code_of self) }
     {
-        // kept: the codes already are the numbers that `as` reads
+        // kept: `as` reads one number of a case, and that is its code
         match self {
             Kind::Begin => 3,
             Kind::Name => 9,

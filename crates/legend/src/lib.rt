@@ -10,9 +10,9 @@ mod names;
 pub use name::{is_name, pad, same};
 
 /// Up to 16 different names, each of eight bytes: name number i stands for mark i.
+// kept: a vector of fixed capacity (arrayvec) is not Copy, and a legend is, for its users
 #[derive(Clone, Copy)]
 pub struct Legend {
-    // kept: no heap here, so the names stand in a fixed array, the first `count` of it in use
     names: [[u8; 8]; 16],
     count: u8,
     ghost few: { count ≤ 16 },

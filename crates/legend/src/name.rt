@@ -53,6 +53,7 @@ pub fn is_name(bytes: &[u8; 8]) -> bool
 pub fn pad(word: &[u8]) -> Option<[u8; 8]>
     ensures { SomeIff result (length word.now ≤ 8) (padded word.now) }
 {
+    // kept: with `name.get_mut(..word.len())?` the proof didn't close, since after its loan nothing is known of the bytes
     if word.len() > 8 {
         return None;
     }

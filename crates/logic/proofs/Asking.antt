@@ -1,8 +1,10 @@
 -- The lines of a question, one after another.
-use Rattle.std.proofs.Common.{◌≡◌, ℕ, zero, suc, ◌+◌, ◌-◌, ◌<◌, T, eqb, ◌↔◌, [], ◌∷◌, ◌++◌, map, reverse, length, get_or, take, set, sym, refl, ap, ◌∙◌, subst, arith, length-take, length-take-le, get_or-take}
+use Rattle.std.proofs.Common.{◌≡◌, ℕ, zero, suc, ◌+◌, ◌-◌, ◌<◌, ◌≤◌, T, eqb, add-one, ◌↔◌, [], ◌∷◌, ◌++◌, map, reverse, length, get_or, take, set, sym, refl, ap, ◌∙◌, subst, arith, length-take, length-take-le, get_or-take}
 use mathlib.Core.List as L
 use mathlib.Core.List.{reverse-append, map-append}
 use Rattle.std.proofs.lemmas.List.{length-reverse, length-map, take_more, take_all}
+use Rattle.std.specs.List.{AllWithin, HoldsAt, enumerate_from}
+use Rattle.std.proofs.lemmas.List.FromFn.{get_or-enumerate_from, length-enumerate_from}
 use Rattle.std.proofs.lemmas.Bool.{cond-true, cond-false, eq-eqb, ne_eqb}
 use Rattle.sets.specs.Sets.{member}
 use Rattle.sets.specs.declared.state_set.StateSet.{StateSet}
@@ -80,3 +82,30 @@ pub tell_front : (M : Model) (sets : L.List StateSet) (i : ℕ) (at : ℕ → Fo
 tell_front M sets i at before p h =
     let l : p < i = omega (arith, length-take i sets) in
     subst (λ x. Tells M x (at p)) (sym (get_or-take i sets p _ l)) (before p l)
+
+-- the rule of a line beside its number
+abbrev pub Keeps : ℕ → ℕ × Line → Type 0
+Keeps k p = Rule k p.0 (line_of p.1)
+
+module _ (k : ℕ) (lines : L.List Line) where
+  numbered : (P : ℕ × Line → Type 0) (i : ℕ) → i < length lines → HoldsAt P (enumerate_from 0 lines) i → P (i, get_or lines i True)
+  numbered P i h held =
+      let same : 0 + i ≡ i = omega arith in
+      subst (λ n. P (n, get_or lines i True)) same (subst P (get_or-enumerate_from 0 lines i (0, True) h) (held (0, True)))
+
+  -- lines that keep their rules one after another
+  pub ruled_lines : (i : ℕ) → i ≤ length lines → AllWithin (Keeps k) (enumerate_from 0 lines) 0 i → Ruled k (question (take i lines))
+  unfolding question
+  ruled_lines zero h each = tt
+  ruled_lines (suc i) h each =
+      let here : Keeps k (i, get_or lines i True) = numbered (Keeps k) i (omega arith) (λ d. each i d (omega arith) (omega arith)) in
+      subst (λ n. Ruled k (question (take n lines))) (add-one i) ((ruled_more lines i (omega arith) k).1 (here, ruled_lines i (omega arith) (λ j d l m. each j d l (omega arith))))
+
+  pub ruled_all : AllWithin (Keeps k) (enumerate_from 0 lines) 0 (length (enumerate_from 0 lines)) → Ruled k (question lines)
+  ruled_all each =
+      let long = length-enumerate_from 0 lines in
+      subst (λ xs. Ruled k (question xs)) (take_all (length lines) lines (omega arith)) (ruled_lines (length lines) (omega arith) (λ j d l m. each j d l (omega (arith, long))))
+
+  -- a line that breaks its rule
+  pub unruled : (i : ℕ) → i < length lines → HoldsAt (λ p. Keeps k p → ⊥) (enumerate_from 0 lines) i → Ruled k (question (take (i + 1) lines)) → ⊥
+  unruled i h broken r = numbered (λ p. Keeps k p → ⊥) i h broken ((ruled_more lines i h k).0 r).0

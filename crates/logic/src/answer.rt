@@ -18,6 +18,7 @@ pub fn evaluate<G: Game>(
 {
     judge(g.agents(), lines, sets.len())?;
     let mut answer = StateSet::empty();
+    // kept: `sets[i]` is written while the places before it are read, which no iterator lends
     for (i, line) in lines.iter().enumerate() {
         answer = line_set(g, *line, &sets[0..i]);
         sets[i] = answer;

@@ -9,6 +9,7 @@ use sets::coalition::Coalition;
 use sets::state_set::StateSet;
 
 /// The states from which the coalition can stay inside `inner` for ever.
+// kept: calls take a model and a coalition apart, since each may be one that the other does not have
 pub fn always<G: Game>(g: &G, a: Coalition, inner: StateSet) -> StateSet
     ensures { (s : ℕ) → T (member result s) ↔ ((X : Set) × (T (X s) × Stays (G.Game.model g.now) (who a) (λ t. T (member inner t)) X)) }
 {

@@ -30,7 +30,7 @@ fn set_at(sets: &[StateSet], p: u16) -> StateSet
     requires { p < length sets.now }
     ensures { result ≡ set_at sets.now p }
 {
-    sets[p as usize]
+    sets[usize::from(p)]
 }
 
 /// Where a line holds that breaks no rule, by the sets of all earlier ones.

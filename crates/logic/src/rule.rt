@@ -26,12 +26,10 @@ fn keeps_rule(agents: u8, i: usize, line: Line) -> bool
     match line {
         Line::True => true,
         Line::Mark(m) => m < 16,
-        Line::Not(a) => (a as usize) < i,
-        Line::And(a, b) => (a as usize) < i && (b as usize) < i,
-        Line::Or(a, b) => (a as usize) < i && (b as usize) < i,
-        Line::Next(c, a) => c.is_among(agents) && (a as usize) < i,
-        Line::Always(c, a) => c.is_among(agents) && (a as usize) < i,
-        Line::Until(c, a, b) => c.is_among(agents) && (a as usize) < i && (b as usize) < i,
+        Line::Not(a) => usize::from(a) < i,
+        Line::And(a, b) | Line::Or(a, b) => usize::from(a) < i && usize::from(b) < i,
+        Line::Next(c, a) | Line::Always(c, a) => c.is_among(agents) && usize::from(a) < i,
+        Line::Until(c, a, b) => { c.is_among(agents) && usize::from(a) < i && usize::from(b) < i }
     }
 }
 
@@ -45,10 +43,12 @@ pub(crate) fn judge(agents: u8, lines: &[Line], room: usize) -> Result<(), Quest
     if room < lines.len() {
         return Err(QuestionFault::Sets);
     }
-    for (i, line) in lines.iter().enumerate() {
-        if !keeps_rule(agents, i, *line) {
-            return Err(QuestionFault::Line(i as u16));
-        }
+    let broken = lines
+        .iter()
+        .enumerate()
+        .position(|(i, line)| !keeps_rule(agents, i, *line));
+    match broken {
+        None => Ok(()),
+        Some(i) => Err(QuestionFault::Line(i as u16)),
     }
-    Ok(())
 }

@@ -4,7 +4,6 @@ ghost use Rattle.std.specs.Prelude.{◌≤◌};
 mod begin;
 
 /// How many agents, states and marks a file declares: never out of range.
-// kept: handed on beside the cursor, which read it first and goes on alone at END
 #[derive(Clone, Copy)]
 pub(crate) struct Header {
     pub(crate) agents: u8,

@@ -5,11 +5,10 @@ ghost use Rattle.legend.specs.Legends.{names_of};
 ghost use Rattle.reader.specs.Faults.{rule_number};
 ghost use Rattle.reader.specs.Whole.{Accepts, Rejects};
 
-use crate::body::{read_end, read_states};
+use crate::body::Body;
 use crate::cursor::Cursor;
 use crate::fault::FileFault;
 use crate::header::read_begin;
-use crate::names::read_names;
 use legend::Legend;
 use model::state::State;
 use model::table::Table;
@@ -28,7 +27,8 @@ fn read_whole(input: &[u8]) -> Result<Whole<'_>, FileFault>
 {
     let mut cursor = Cursor::new(input);
     let header = read_begin(&mut cursor)?;
-    let legend = read_names(&mut cursor, header)?;
+    let mut body = Body { cursor, header };
+    let legend = body.read_names()?;
     let unused = State {
         marks: 0,
         counts: [0; 6],
@@ -36,12 +36,12 @@ fn read_whole(input: &[u8]) -> Result<Whole<'_>, FileFault>
     };
     let mut states = [unused; 64];
     let states = &mut states[..header.states as usize];
-    let total = read_states(&mut cursor, header, states)?;
-    read_end(&mut cursor, total)?;
+    let total = body.read_states(states)?;
+    body.read_end(total)?;
     Ok(Whole {
         table: Table::from_states(header.agents, states).unwrap(),
         legend,
-        rest: cursor.rest,
+        rest: body.cursor.rest,
     })
 }
 

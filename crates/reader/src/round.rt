@@ -23,6 +23,7 @@ pub enum CopyFault {
     Write(WriteFault),
 }
 
+// kept: the derive's From has no contract
 impl From<FileFault> for CopyFault {
     ghost from_gives = { λ fault made. made ≡ copy.Read fault };
 
@@ -31,6 +32,7 @@ impl From<FileFault> for CopyFault {
     }
 }
 
+// kept: the derive's From has no contract
 impl From<WriteFault> for CopyFault {
     ghost from_gives = { λ fault made. made ≡ copy.Write fault };
 

@@ -4,15 +4,14 @@ ghost use Rattle.std.specs.Option.{SomeIff};
 ghost use Rattle.model.specs.Model.{everyone, moves};
 ghost use Rattle.model.specs.Kinds.{counts_at};
 ghost use Rattle.file.specs.File.{Command, state, encode};
-ghost use Rattle.file.specs.Reading.{Counts, Refused, Seen, after, due};
-ghost use Rattle.reader.specs.Faults.{rule_number};
+ghost use Rattle.file.specs.Reading.{Counts, Seen, after, due};
+ghost use Rattle.reader.specs.Faults.{Refuses};
 ghost use Rattle.reader.specs.Heads.{HeadOf};
 ghost use Rattle.reader.specs.Sofar.{Reached};
 
 use super::Head;
-use crate::cursor::Cursor;
+use crate::body::Body;
 use crate::fault::{FileFault, FileRule};
-use crate::header::Header;
 use file::kind::Kind;
 use file::write::among;
 use model::state::State;
@@ -39,16 +38,19 @@ fn state_of(operands: [u8; 8]) -> State
     }
 }
 
-/// Reads one STATE.
-pub(crate) fn read_head(cursor: &mut Cursor, header: Header) -> Result<Head, FileFault>
-    ensures head { IfOk result (HeadOf header) }
-    ensures reads { (input : List ℕ) (cs : List Command) (s : Seen) → Reached input cursor.old cs s → s.ended ≡ false → due s ≡ 3 → s.k ≡ header.agents → s.m ≡ header.marks → MatchResult result (λ x. Reached input cursor.new (cs ++ state x.state.marks x.state.counts ∷ []) (after s (state x.state.marks x.state.counts))) (λ f. Refused input (rule_number f.rule) f.place) }
-{
-    let place = cursor.place;
-    let state = state_of(cursor.take(Kind::State)?);
-    if !among(state.marks, header.marks) {
-        return Err(FileRule::Mark.at(place));
+impl<'a> Body<'a> {
+    /// Reads one STATE.
+    pub(crate) fn read_head(&mut self) -> Result<Head, FileFault>
+        ensures header { self.new.header ≡ self.old.header }
+        ensures head { IfOk result (HeadOf self.old.header) }
+        ensures reads { (input : List ℕ) (cs : List Command) (s : Seen) → Reached input self.old.cursor cs s → s.ended ≡ false → due s ≡ 3 → s.k ≡ self.old.header.agents → s.m ≡ self.old.header.marks → MatchResult result (λ x. Reached input self.new.cursor (cs ++ state x.state.marks x.state.counts ∷ []) (after s (state x.state.marks x.state.counts))) (Refuses input) }
+    {
+        let place = self.cursor.place;
+        let state = state_of(self.cursor.take(Kind::State)?);
+        if !among(state.marks, self.header.marks) {
+            return Err(FileRule::Mark.at(place));
+        }
+        let joint = joint_of(state, self.header.agents).ok_or(FileRule::Count.at(place))?;
+        Ok(Head { state, joint })
     }
-    let joint = joint_of(state, header.agents).ok_or(FileRule::Count.at(place))?;
-    Ok(Head { state, joint })
 }

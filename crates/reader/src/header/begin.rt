@@ -1,8 +1,8 @@
 //! BEGIN.
 ghost use Rattle.std.specs.Prelude.{◌≡◌, ℕ, List, [], MatchOption, MatchResult};
 ghost use Rattle.file.specs.File.{begin};
-ghost use Rattle.file.specs.Reading.{Keeps, Refused, nothing};
-ghost use Rattle.reader.specs.Faults.{rule_number};
+ghost use Rattle.file.specs.Reading.{Keeps, nothing};
+ghost use Rattle.reader.specs.Faults.{Refuses};
 ghost use Rattle.reader.specs.Sofar.{Reached, named, opening};
 
 use super::Header;
@@ -30,7 +30,7 @@ impl Header {
 
 /// Reads BEGIN.
 pub(crate) fn read_begin(cursor: &mut Cursor) -> Result<Header, FileFault>
-    ensures { (input : List ℕ) → Reached input cursor.old [] nothing → MatchResult result (λ h. Reached input cursor.new (opening h []) (named h [])) (λ f. Refused input (rule_number f.rule) f.place) }
+    ensures { (input : List ℕ) → Reached input cursor.old [] nothing → MatchResult result (λ h. Reached input cursor.new (opening h []) (named h [])) (Refuses input) }
 {
     let place = cursor.place;
     let [agents, states, marks] = cursor.take::<3>(Kind::Begin)?;

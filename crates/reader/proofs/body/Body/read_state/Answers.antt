@@ -11,7 +11,7 @@ use Rattle.reader.specs.declared.head.Head.{Head}
 use Rattle.reader.specs.declared.header.Header.{Header}
 use Rattle.reader.specs.Sofar.{Sofar}
 use Rattle.reader.proofs.Naming.{upto_same}
-use Rattle.reader.proofs.outs.read_state.Goals as goal
+use Rattle.reader.proofs.body.Body.read_state.Goals as goal
 
 -- what the state's own command leaves to come
 module _ (h : Header) (head : Head) (of : HeadOf h head) (s : Seen) (n : Naming s) where
@@ -37,11 +37,11 @@ returns-in_err-read_outs-clause-reads c input cs s so n left states k m few =
     let so1 = told.reads input cs s so n.going (due_state s n.going n.some n.all left states) k m in
     let long = length-take-le head.joint head.state.outcomes (omega (arith, told.head.joint, told.head.counts.ranged.product)) in
     let p = err_from_is_err_and c.from_residual-in_err-read_outs.result c.from_residual-in_err-read_outs.ensures.1 in
-    rw (p.1, p.2) (c.in_err-read_outs.ensures.reads input _ _ so1 (to_come c.args.header head told.head s n) (lacks c.args.header head told.head s n k ∙ sym long) few)
+    rw (p.1, p.2) (c.in_err-read_outs.ensures.reads input _ _ so1 (to_come c.args.self.now.header head told.head s n) (lacks c.args.self.now.header head told.head s n k ∙ sym long) (few ∙ sym (ap (λ (h : Header). h.states) told.header)))
 
 pub returns : goal.returns
 returns c =
-    let agents = c.args.header.agents in
+    let agents = c.args.self.now.header.agents in
     let head = c.in_ok-state.field-0 in
     let told = c.in_ok-state.ensures in
     let read = c.in_ok-read_outs.ensures in
@@ -49,20 +49,22 @@ returns c =
     let ys = drop head.joint head.state.outcomes in
     let taken : length (take head.joint head.state.outcomes) ≡ head.joint = length-take-le head.joint head.state.outcomes (omega (arith, told.head.joint, told.head.counts.ranged.product)) in
     let long : length xs ≡ head.joint = omega (arith, taken, c.read_outs.auto.outcomes) in
+    let states : c.read_head.new.self.header.states ≡ c.args.self.now.header.states = ap (λ (h : Header). h.states) told.header in
     record {
+      header = told.header;
       kept = (
         record {
           six = told.head.six;
           declared = told.head.declared;
           counts = told.head.counts;
-          inside = λ j l. front_inside xs ys head.joint long c.args.header.states j read.inside (omega (arith, l, told.head.joint));
+          inside = λ j l. front_inside xs ys head.joint long c.args.self.now.header.states j (subst (λ (n : ℕ). (i : ℕ) → i < length xs → get_or xs i 0 < n) states read.inside) (omega (arith, l, told.head.joint));
         },
         told.head.joint,
       );
-      reads = λ input cs s so n left states k m few.
-          let so1 = told.reads input cs s so n.going (due_state s n.going n.some n.all left states) k m in
-          let none = lacks c.args.header head told.head s n k in
-          let so2 = read.reads input _ _ so1 (to_come c.args.header head told.head s n) (none ∙ sym taken) few in
+      reads = λ input cs s so n left before k m few.
+          let so1 = told.reads input cs s so n.going (due_state s n.going n.some n.all left before) k m in
+          let none = lacks c.args.self.now.header head told.head s n k in
+          let so2 = read.reads input _ _ so1 (to_come c.args.self.now.header head told.head s n) (none ∙ sym taken) (few ∙ sym states) in
           let own = state head.state.marks head.state.counts in
           let same : (cs ++ own ∷ []) ++ upto (out_command xs) (length xs) ≡ cs ++ own ∷ upto (out_command (xs ++ ys)) (moves everyone (counts_at head.state) agents) =
           append_assoc cs (own ∷ []) (upto (out_command xs) (length xs))

@@ -6,7 +6,7 @@ use Rattle.file.specs.Reading.{Seen, Keeps, Refused, Counts, after, due}
 use Rattle.reader.specs.Sofar.{Sofar}
 use Rattle.reader.proofs.Failing.{error, proved, refuted}
 use Rattle.reader.proofs.Going.{sofar_more, breaks}
-use Rattle.reader.proofs.head.read.read_head.Goals as goal
+use Rattle.reader.proofs.body.Body.read_head.Goals as goal
 
 module _ {input rest : List ℕ} {place : ℕ} {cs : List Command} {s : Seen} (so : Sofar input rest place cs s) (d : due s ≡ 3) (m : ℕ) (mark : s.m ≡ m) (x : ℕ) (counts rest' : List ℕ) (six : length counts ≡ 6)
     {bytes : List ℕ} (stands : rest ≡ bytes ++ rest') (spelled : bytes ≡ encode (state x counts)) where
@@ -34,7 +34,7 @@ returns-then-not-among-clause-reads c input cs s so going d k m =
     let took = c.in_ok-take.ensures in
     let x = c.state_of-state.result in
     let spelled = c.state_of-state.ensures in
-    rw c.at.ensures.0 (undeclared so d c.args.header.marks m x.marks x.counts _ spelled.0 took.0 spelled.1 c.if-not-among.ensures.1 c.at.ensures.1)
+    rw c.at.ensures.0 (undeclared so d c.args.self.now.header.marks m x.marks x.counts _ spelled.0 took.0 spelled.1 c.if-not-among.ensures.1 c.at.ensures.1)
 
 pub returns-in_err-joint-clause-reads : goal.returns-in_err-joint-clause-reads
 returns-in_err-joint-clause-reads c input cs s so going d k m =
@@ -43,7 +43,7 @@ returns-in_err-joint-clause-reads c input cs s so going d k m =
     let spelled = c.state_of-state.ensures in
     let p = err_from_is_err_and c.from_residual-in_err-joint.result c.from_residual-in_err-joint.ensures.1 in
     let never = refuted _ _ c.in_err-joint.ensures.ok_part c.joint_of.ensures in
-    rw (p.1, p.2, error c.joint_of.result _ _ c.in_err-joint.ensures.value, c.at-2.ensures.0) (uncounted so d c.args.header.marks m x.marks x.counts _ spelled.0 took.0 spelled.1 c.args.header.agents k (c.if-not-among.ensures.0 tt) never c.at-2.ensures.1)
+    rw (p.1, p.2, error c.joint_of.result _ _ c.in_err-joint.ensures.value, c.at-2.ensures.0) (uncounted so d c.args.self.now.header.marks m x.marks x.counts _ spelled.0 took.0 spelled.1 c.args.self.now.header.agents k (c.if-not-among.ensures.0 tt) never c.at-2.ensures.1)
 
 pub returns-clause-reads : goal.returns-clause-reads
 returns-clause-reads c input cs s so going d k m =
@@ -51,4 +51,4 @@ returns-clause-reads c input cs s so going d k m =
     let x = c.state_of-state.result in
     let spelled = c.state_of-state.ensures in
     let joint = proved _ _ _ c.in_ok-joint.ensures.ok_part c.joint_of.ensures in
-    told so d c.args.header.marks m x.marks x.counts _ spelled.0 took.0 spelled.1 c.args.header.agents k (c.if-not-among.ensures.0 tt) joint.0 took.2
+    told so d c.args.self.now.header.marks m x.marks x.counts _ spelled.0 took.0 spelled.1 c.args.self.now.header.agents k (c.if-not-among.ensures.0 tt) joint.0 took.2
