@@ -23,7 +23,7 @@ fn read_name(cursor: &mut Cursor, legend: &mut Legend) -> Result<(), FileFault>
     if operands[0] != legend.count() {
         return Err(FileRule::Name.at(place));
     }
-    // kept: with a pattern `[number, bytes @ ..]` the function gets no proof, since a part of an array that a pattern binds is not covered.
+    // kept: with a pattern `[number, bytes @ ..]` the function gets no proof, since a part of an array that a pattern binds is not covered
     let bytes = operands[1..].try_into().unwrap();
     legend.add(bytes).ok_or(FileRule::Name.at(place))?;
     Ok(())

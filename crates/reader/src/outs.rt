@@ -40,7 +40,7 @@ impl<'a> Body<'a> {
         ensures reads { (input : List ℕ) (cs : List Command) (s : Seen) → Reached input self.old.cursor cs s → Naming s → s.left ≡ 0 → s.states < s.n → s.k ≡ self.old.header.agents → s.m ≡ self.old.header.marks → s.n ≡ self.old.header.states → MatchResult result (λ x. Reached input self.new.cursor (cs ++ state_commands self.old.header.agents x.state) (state_seen s x.joint)) (Refuses input) }
     {
         let Head { state, joint } = self.read_head()?;
-        // kept: after a loan of a part of `state.outcomes` itself a proof knows none of its bytes.
+        // kept: after a loan of a part of `state.outcomes` itself a proof knows none of its bytes
         let mut outcomes = state.outcomes;
         read_outs(
             &mut self.cursor,

@@ -30,7 +30,7 @@ fn joint_of(x: State, agents: u8) -> Option<u8>
 fn state_of(operands: [u8; 8]) -> State
     ensures { (length result.counts ≡ 6) × (3 ∷ operands ≡ encode (state result.marks result.counts)) }
 {
-    // kept: with a pattern `[high, low, counts @ ..]` the function gets no proof, since a part of an array that a pattern binds is not covered.
+    // kept: with a pattern `[high, low, counts @ ..]` the function gets no proof, since a part of an array that a pattern binds is not covered
     State {
         marks: u16::from_be_bytes(operands[..2].try_into().unwrap()),
         counts: operands[2..].try_into().unwrap(),
