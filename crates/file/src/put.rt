@@ -22,6 +22,7 @@ pub(crate) fn put(bytes: &mut List<u8>, more: &[u8])
 }
 
 /// Puts the names of a legend, each as a command.
+// kept: each of these asks for as much room as it fills, which is another for each
 pub(crate) fn put_names(bytes: &mut List<u8>, legend: &Legend)
     requires { length (upto (name_bytes (names_of legend.now)) (length (names_of legend.now))) ≤ room bytes.old }
     ensures { Puts bytes.old bytes.new (upto (name_bytes (names_of legend.now)) (length (names_of legend.now))) }

@@ -62,6 +62,7 @@ impl<'a, T: Copy> List<'a, T> {
     pub fn add(&mut self, x: T) -> Result<(), Full>
         ensures { MatchResult result (λ _. (0 < room self.old) × Puts self.old self.new (x ∷ [])) (λ _. (room self.old ≡ 0) × Kept self.old self.new) }
     {
+        // kept: with `get_mut` and `ok_or` the proof didn't close, since nothing is known of the places after the loan
         if self.count < self.size() {
             self.places[self.count] = x;
             self.count += 1;

@@ -18,6 +18,7 @@ impl<'a, G: Game> Pointed<'a, G> {
     pub fn new(game: &'a G, state: u8) -> Option<Pointed<'a, G>>
         ensures { MatchOption result (state < (G.Game.model game.now).n → ⊥) (λ p. (p.game.now ≡ game.now) × (p.state ≡ state)) }
     {
+        // kept: `then_some` makes the value before the test, where its ghost field doesn't hold
         if state < game.states() {
             Some(Pointed { game, state })
         } else {

@@ -21,6 +21,7 @@ pub enum JobFault {
     Question(TextFault),
 }
 
+// kept: the derive's From has no contract
 impl From<FileFault> for JobFault {
     ghost from_gives = { λ x y. y ≡ job.Model x };
 
@@ -29,6 +30,7 @@ impl From<FileFault> for JobFault {
     }
 }
 
+// kept: the derive's From has no contract
 impl From<TextFault> for JobFault {
     ghost from_gives = { λ x y. y ≡ job.Question x };
 

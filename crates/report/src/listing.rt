@@ -27,6 +27,7 @@ fn put_number(listing: &mut List<u8>, n: u8)
 }
 
 /// Puts a state after a space, where it is in the set.
+// kept: each of these asks for as much room as it fills, which is another for each
 fn put_state(listing: &mut List<u8>, set: StateSet, s: u8)
     requires { 4 ≤ room listing.old }
     ensures { Puts listing.old listing.new (spaced (member set) s) }

@@ -30,6 +30,7 @@ impl<'a, 'b> Parser<'a, 'b> {
     }
 
     /// Reads a state, which may stand so many levels deep, adds its lines, and answers the number of the last.
+    // kept: the depth is handed down and not held, since it falls with each call and is as before after it
     #[cycle(reading)]
     pub(crate) fn state(&mut self, allow: u8) -> Result<u16, TextFault>
         ensures { MatchResult result (λ at. Stated allow self.old self.new at) (λ f. Faulty allow [] self.old f) }

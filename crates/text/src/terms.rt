@@ -19,6 +19,7 @@ pub(crate) struct Terms {
 }
 
 /// The coalition that rising digits from 0 to 5 name, or none for other digits.
+// kept: read once more where the token is used, since a token holds the part of the text that it fills
 pub(crate) fn coalition(digits: &[u8]) -> Option<Coalition>
     ensures { MatchOption result (Rising 48 digits.now → ⊥) (λ c. Rising 48 digits.now × (who c ≡ number digits.now)) }
 {

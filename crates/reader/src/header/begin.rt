@@ -16,6 +16,7 @@ impl Header {
     fn new(agents: u8, states: u8, marks: u8) -> Option<Header>
         ensures { MatchOption result (Keeps nothing (begin agents states marks) → ⊥) (λ h. (h.agents ≡ agents) × (h.states ≡ states) × (h.marks ≡ marks)) }
     {
+        // kept: `then_some` makes the value before the test, where its ghost fields don't hold
         if (1..=6).contains(&agents) && (1..=64).contains(&states) && marks <= 16 {
             Some(Header {
                 agents,
