@@ -6,7 +6,7 @@ ghost use Rattle.ability.specs.Ability.{Leads};
 
 use crate::own::parts_at;
 use crate::parts::Parts;
-use model::game::Game;
+use model::game::{Game, Marked};
 use model::pointed::Pointed;
 use sets::coalition::Coalition;
 use sets::state_set::StateSet;
@@ -45,5 +45,12 @@ pub fn can<G: Game>(g: &G, a: Coalition, s: u8, x: StateSet) -> bool
 pub fn able<G: Game>(g: &G, a: Coalition, among: StateSet, x: StateSet) -> StateSet
     ensures { (s : ℕ) → T (member result s) ↔ (T (member among s) × Can (G.Game.model g.now) (who a) s (λ t. T (member x t))) }
 {
-    among.filter(|s| can(g, a, s, x))
+    let mut found = StateSet::empty();
+    // kept: one call of a set for this loop and that of `with_mark` would take a test and ask that it may be called
+    for s in 0..g.states() {
+        if among.contains(s) && can(g, a, s, x) {
+            found.insert(s);
+        }
+    }
+    found
 }

@@ -22,7 +22,14 @@ fn has_mark<G: Marked>(g: &G, s: u8, m: u8) -> bool
 pub fn with_mark<G: Marked>(g: &G, m: u8) -> StateSet
     ensures { (s : ℕ) → T (member result s) ↔ ((s < (G.Marked.marked g.now).n) × T (bit ((G.Marked.marked g.now).marks s) m)) }
 {
-    StateSet::below(g.states()).filter(|s| has_mark(g, s, m))
+    let mut found = StateSet::empty();
+    // kept: one call of a set for this loop and that of `able` would take a test and ask that it may be called
+    for s in 0..g.states() {
+        if has_mark(g, s, m) {
+            found.insert(s);
+        }
+    }
+    found
 }
 
 /// The set of an earlier line.

@@ -1,5 +1,5 @@
 //! Sets of states, by their numbers.
-ghost use Rattle.std.specs.Prelude.{◌≡◌, ℕ, ◌<◌, true, false, T, ◌⊎◌, ◌↔◌, MatchOption};
+ghost use Rattle.std.specs.Prelude.{◌≡◌, ℕ, ◌<◌, T, ◌⊎◌, ◌↔◌, MatchOption};
 ghost use Rattle.sets.specs.Sets.{bit, limit, member, Lowest};
 
 use crate::bits::is_set;
@@ -94,21 +94,6 @@ impl StateSet {
     {
         let bits = self.bits & !other.bits;
         StateSet { bits }
-    }
-
-    /// Those of its states that pass the test.
-    pub fn filter<F: Fn(u8) -> bool>(self, test: F) -> StateSet
-        requires { F.IsAlwaysCallable test }
-        ensures kept { (s : ℕ) → T (member result s) → T (member self s) × F.post test s true }
-        ensures left { (s : ℕ) → T (member self s) → (T (member result s) → ⊥) → F.post test s false }
-    {
-        let mut kept = StateSet::empty();
-        for s in 0..64 {
-            if self.contains(s) && test(s) {
-                kept.insert(s);
-            }
-        }
-        kept
     }
 
     /// Whether it holds nothing.
