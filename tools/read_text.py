@@ -4,7 +4,8 @@
     python3 tools/read_text.py < crates/texts/stdin        prints what crates/texts/stdout has
 
 The legend is `p`, `a1b`, `truex`, and there are two agents. A row is a number of places, a space and a text, in which `$`
-stands for a line end, `~` for a tab and `^` for a carriage return.
+stands for a line end, `~` for a tab and `^` for a carriage return. The digits of the number are the low halves of its bytes,
+whatever they are, and it wraps at 64 bits.
 """
 import sys
 
@@ -112,12 +113,19 @@ def read(text, places):
     return reader.lines
 
 
+def number(digits):
+    places = 0
+    for byte in digits.encode():
+        places = (places * 10 + (byte & 15)) % 2**64
+    return places
+
+
 for row in sys.stdin.read().split("\n")[:-1]:
     places, _, written = row.partition(" ")
     text = written.replace("$", "\n").replace("~", "\t").replace("^", "\r")
     shown = row if len(row) < 80 else f"{len(text)} bytes"
     try:
-        told = " ".join(read(text, min(64, int(places))))
+        told = " ".join(read(text, min(64, number(places))))
     except Refused as fault:
         told = f"refused {fault.number} at {fault.place}, 0 lines"
     print(f"{shown} -> {told}")

@@ -11,7 +11,7 @@ use model::pointed::Pointed;
 use sets::coalition::Coalition;
 
 /// The own choices of a coalition at a state, and which of them each joint move agrees with.
-fn own_parts<G: Game>(at: &Pointed<G>, a: Coalition) -> Parts
+pub(crate) fn own_parts<G: Game>(at: &Pointed<G>, a: Coalition) -> Parts
     ensures { PartsOf (bit (who a)) ((G.Game.model at.now.game.now).d at.now.state) (G.Game.model at.now.game.now).k result }
 {
     let mut parts = Parts {
@@ -25,20 +25,15 @@ fn own_parts<G: Game>(at: &Pointed<G>, a: Coalition) -> Parts
     parts
 }
 
-/// The model at a state, and the own choices of a coalition there, or none where the state or the coalition doesn't exist.
-pub(crate) fn parts_at<'a, G: Game>(
-    g: &'a G,
-    a: Coalition,
-    s: u8,
-) -> Option<(Pointed<'a, G>, Parts)>
-    ensures { MatchOption result ((s < (G.Game.model g.now).n) × Exists (G.Game.model g.now) (who a) → ⊥) (λ p. (p.0.game.now ≡ g.now) × (p.0.state ≡ s) × Exists (G.Game.model g.now) (who a) × PartsOf (bit (who a)) ((G.Game.model g.now).d s) (G.Game.model g.now).k p.1) }
+/// The model at a state, or none where the state or the coalition doesn't exist.
+pub(crate) fn pointed<'a, G: Game>(g: &'a G, a: Coalition, s: u8) -> Option<Pointed<'a, G>>
+    ensures { MatchOption result ((s < (G.Game.model g.now).n) × Exists (G.Game.model g.now) (who a) → ⊥) (λ p. (p.game.now ≡ g.now) × (p.state ≡ s) × Exists (G.Game.model g.now) (who a)) }
 {
     let at = Pointed::new(g, s)?;
     if !a.is_among(at.agents()) {
         return None;
     }
-    let parts = own_parts(&at, a);
-    Some((at, parts))
+    Some(at)
 }
 
 /// How many own choices the coalition has at a state, or none where one of them doesn't exist.
@@ -46,7 +41,8 @@ pub(crate) fn parts_at<'a, G: Game>(
 pub fn own_choices<G: Game>(g: &G, a: Coalition, s: u8) -> Option<u8>
     ensures { SomeIff result ((s < (G.Game.model g.now).n) × Exists (G.Game.model g.now) (who a)) (owns (G.Game.model g.now) (who a) s) }
 {
-    let (_, parts) = parts_at(g, a, s)?;
+    let at = pointed(g, a, s)?;
+    let parts = own_parts(&at, a);
     Some(parts.count)
 }
 
@@ -55,7 +51,8 @@ pub fn own_choice<G: Game>(g: &G, a: Coalition, s: u8, j: u8) -> Option<u8>
     ensures value { SomeIff result ((s < (G.Game.model g.now).n) × (j < joint (G.Game.model g.now) s) × Exists (G.Game.model g.now) (who a)) (own_of (G.Game.model g.now) (who a) s j) }
     ensures numbering { s < (G.Game.model g.now).n → Numbering (G.Game.model g.now) (who a) s }
 {
-    let (at, parts) = parts_at(g, a, s)?;
+    let at = pointed(g, a, s)?;
     at.out(j)?;
+    let parts = own_parts(&at, a);
     Some(parts.own[j as usize])
 }

@@ -41,6 +41,14 @@ fn is_named<G: Game>(game: &G, s: u8, names: u8) -> bool
     game.marks(s).is_none_or(|marks| among(marks, names))
 }
 
+/// Whether the legend has a name for each mark that a state carries.
+pub(crate) fn is_covered<G: Game>(game: &G, legend: &Legend) -> bool
+    ensures { T result ↔ Named (marks_of (G.Game.model game.now)) (length (names_of legend.now)) }
+{
+    let names = legend.count();
+    (0..game.states()).all(|s| is_named(game, s, names))
+}
+
 impl<'a, G: Game> Contents<'a, G> {
     /// The contents of the file of this model and this legend.
     pub(crate) fn new(game: &'a G, legend: &'a Legend) -> Contents<'a, G>
@@ -52,14 +60,6 @@ impl<'a, G: Game> Contents<'a, G> {
             legend,
             total,
         }
-    }
-
-    /// Whether the legend has a name for each mark that a state carries.
-    pub(crate) fn is_covered(&self) -> bool
-        ensures { T result ↔ Named (marks_of (G.Game.model self.now.game.now)) (length (names_of self.now.legend.now)) }
-    {
-        let names = self.legend.count();
-        (0..self.game.states()).all(|s| is_named(self.game, s, names))
     }
 
     /// How long the file is.

@@ -52,8 +52,10 @@ fn put_outs<G: Game>(bytes: &mut List<u8>, at: &Pointed<G>)
     requires { length (upto (out_bytes (G.Game.model at.now.game.now) at.now.state) (joint (G.Game.model at.now.game.now) at.now.state)) ≤ room bytes.old }
     ensures { Puts bytes.old bytes.new (upto (out_bytes (G.Game.model at.now.game.now) at.now.state) (joint (G.Game.model at.now.game.now) at.now.state)) }
 {
-    for j in 0..at.joint_moves() {
-        put(bytes, &[Kind::Out.code(), at.out(j).unwrap()]);
+    // `out` itself says where the joint moves end: their number would have to be multiplied once more
+    for j in 0..64 {
+        let Some(t) = at.out(j) else { break };
+        put(bytes, &[Kind::Out.code(), t]);
     }
 }
 

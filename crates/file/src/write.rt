@@ -3,7 +3,7 @@ ghost use Rattle.std.specs.Prelude.{◌≡◌, ◌^◌, ◌<◌, ◌≤◌, T, �
 ghost use Rattle.legend.specs.Legends.{names_of};
 ghost use Rattle.file.specs.Writing.{Refused, Written, fault_number};
 
-use crate::contents::Contents;
+use crate::contents::{Contents, is_covered};
 use legend::Legend;
 use list::List;
 use model::game::Game;
@@ -40,10 +40,10 @@ pub fn among(marks: u16, names: u8) -> bool
 pub fn write<G: Game>(g: &G, legend: &Legend, bytes: &mut [u8]) -> Result<usize, WriteFault>
     ensures { MatchResult result (λ len. Written (G.Game.model g.now) (names_of legend.now) bytes.old bytes.new len) (λ f. Refused (G.Game.model g.now) (names_of legend.now) (length bytes.old) f × (bytes.new ≡ bytes.old)) }
 {
-    let contents = Contents::new(g, legend);
-    if !contents.is_covered() {
+    if !is_covered(g, legend) {
         return Err(WriteFault::Unnamed);
     }
+    let contents = Contents::new(g, legend);
     let len = contents.length();
     if bytes.len() < len {
         return Err(WriteFault::Bytes);

@@ -18,5 +18,5 @@ pub struct List<'a, T> {
 
 /// The refusal of an item where every place is taken.
 #[derive(Clone, Copy, PartialEq, Eq, Debug, Error)]
-#[error("every place of the list is taken")]
+#[error("the list has too few places")]
 pub struct Full;

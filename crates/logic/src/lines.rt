@@ -15,7 +15,8 @@ use sets::state_set::StateSet;
 fn has_mark<G: Marked>(g: &G, s: u8, m: u8) -> bool
     ensures { T result ↔ ((s < (G.Marked.marked g.now).n) × T (bit ((G.Marked.marked g.now).marks s) m)) }
 {
-    g.marks(s).is_some_and(|marks| is_set(u64::from(marks), m))
+    // marks have 16 bits, so no state need be asked of another
+    m < 16 && g.marks(s).is_some_and(|marks| is_set(u64::from(marks), m))
 }
 
 /// The states with a mark.

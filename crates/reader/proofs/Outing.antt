@@ -10,7 +10,7 @@ use Rattle.reader.proofs.Naming.{upto_same}
 use Rattle.reader.proofs.Spelling.{spells_out}
 
 -- one outcome more
-outs_more : (xs : List ℕ) (j t : ℕ) → j < length xs → upto (out_command xs) j ++ (out t ∷ []) ≡ upto (out_command (set xs j t)) (j + 1)
+pub outs_more : (xs : List ℕ) (j t : ℕ) → j < length xs → upto (out_command xs) j ++ (out t ∷ []) ≡ upto (out_command (set xs j t)) (j + 1)
 outs_more xs j t h =
     ap₂ ◌++◌
     (upto_same (out_command xs) (out_command (set xs j t)) j (λ i l. let n : i ≢ j = λ e. omega arith in ap (λ (x : ℕ). out x ∷ []) (sym (get_or-set_other xs j i t 0 n))))

@@ -1,7 +1,8 @@
 //! Refusals: each reason to refuse has a number, and many have a place.
 #![tactic(auto)]
 
-ghost use Rattle.std.specs.Prelude.{◌≡◌, ℕ};
+ghost use Rattle.std.specs.Prelude.{◌≡◌, ℕ, ◌++◌, Some, codes, decimal};
+ghost use Rattle.std.specs.Fmt.{◌++?◌};
 
 use std::error::Error;
 use std::fmt;
@@ -42,6 +43,8 @@ impl<R: Numbered> Numbered for Fault<R> {
 }
 
 impl<R: fmt::Display> fmt::Display for Fault<R> {
+    ghost output = { λ fault. R.output fault.rule ++? Some (codes ", at byte " ++ decimal fault.place) };
+
     fn fmt<W: fmt::Write>(&self, f: &mut fmt::Formatter<W>) -> fmt::Result {
         write!(f, "{}, at byte {}", self.rule, self.place)
     }

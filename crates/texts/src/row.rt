@@ -8,10 +8,12 @@ pub(crate) struct Row {
 }
 
 impl Row {
-    /// The row that a line of input spells; one without a number has no places.
+    /// The row that a line of input spells: a digit is the low half of its byte, and a number too large wraps.
     pub(crate) fn read(heap: Global, line: &str) -> Result<Row, AllocError> {
         let (places, text) = line.split_once(' ').unwrap_or((line, ""));
-        let places = places.parse().unwrap_or(0);
+        let places = places.bytes().fold(0usize, |places, byte| {
+            places.wrapping_mul(10).wrapping_add(usize::from(byte & 15))
+        });
         let text = text
             .bytes()
             .map(|byte| match byte {

@@ -16,9 +16,9 @@ returns-clause-can g c =
     let M = g.G.Game.model at.game.now in
     let A = who c.args.a in
     let told = c.in-Some.ensures in
-    let of : PartsOf (bit A) (M.d at.state) M.k c.in-Some.parts = rw (told.0, told.1) told.3 in
+    let of : PartsOf (bit A) (M.d at.state) M.k c.own_parts-parts.result = c.own_parts-parts.ensures in
     let exists : Exists M A = rw told.0 told.2 in
-    let able = can_leads M A at.state (member c.args.x) c.in-Some.parts exists at.exists of c.leading.result c.leading.ensures in
+    let able = can_leads M A at.state (member c.args.x) c.own_parts-parts.result exists at.exists of c.leading.result c.leading.ensures in
     let here : T (not c.is_empty.result) ↔ Can M A at.state (λ t. T (member c.args.x t)) = (
       λ t. able.0 (λ none. (T_not c.is_empty.result).0 t (c.is_empty.ensures.1 none)),
       λ can. (T_not c.is_empty.result).1 (λ t. able.1 can (c.is_empty.ensures.0 t)),

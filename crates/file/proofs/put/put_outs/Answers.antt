@@ -9,11 +9,11 @@ pub put-requires : goal.put-requires
 put-requires g c =
     let at = c.args.at.now in
     let M = g.G.Game.model at.game.now in
-    room_upto (out_bytes M at.state) (joint M at.state) c.loop-j.j c.requires c.loop-j.invariant (omega arith)
+    room_upto (out_bytes M at.state) (joint M at.state) c.loop-j.j c.requires c.loop-j.invariant.1 (omega (arith, c.in-Some.ensures.0))
 
 pub loop-j-preserved : goal.loop-j-preserved
 loop-j-preserved g c =
     let at = c.args.at.now in
     let M = g.G.Game.model at.game.now in
-    let part : c.code.result ∷ c.unwrap.result ∷ [] ≡ out_bytes M at.state c.loop-j.j = grind arith in
-    puts_upto (out_bytes M at.state) c.loop-j.j c.loop-j.invariant (puts_same part c.put.ensures)
+    let part : c.code.result ∷ c.in-Some.t ∷ [] ≡ out_bytes M at.state c.loop-j.j = grind arith in
+    (omega (arith, c.in-Some.ensures.0), puts_upto (out_bytes M at.state) c.loop-j.j c.loop-j.invariant.1 (puts_same part c.put.ensures))

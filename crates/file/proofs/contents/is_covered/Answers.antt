@@ -3,13 +3,13 @@ use Rattle.std.proofs.lemmas.Iterator.{cases_from_all, YieldsList-from_range}
 use Rattle.model.specs.Model.{Marks, marks_of}
 use Rattle.file.specs.File.{Named}
 use Rattle.file.proofs.Every.{all_below}
-use Rattle.file.proofs.contents.Contents.is_covered.Goals as goal
+use Rattle.file.proofs.contents.is_covered.Goals as goal
 
 pub returns : goal.returns
 returns g c =
-    let M = g.G.Game.model c.args.self.now.game.now in
+    let M = g.G.Game.model c.args.game.now in
     let n = c.states.result in
-    let tied = ap (λ (m : Marks). m.n) (g.met.G.Game.tied c.args.self.now.game.now) in
+    let tied = ap (λ (m : Marks). m.n) (g.met.G.Game.tied c.args.game.now) in
     let P = λ (s : ℕ). s < M.n → M.marks s < 2 ^ c.count-names.result in
     let told = cases_from_all _ _ c.all.result P (λ (s : ℕ). P s → ⊥) c.all.ensures.ran (YieldsList-from_range 0 n n refl (omega arith)) (λ x q k. search (rules, tests)) (λ x q k. search (rules, tests)) in
     let (so, back) = all_below P n c.all.result told in
